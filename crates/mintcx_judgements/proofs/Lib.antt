@@ -1,5 +1,6 @@
 mod BetweenLaws
 mod CauseLaws
+mod DataLaws
 mod NamedLaws
 mod PlaceLaws
 mod RoomLaws

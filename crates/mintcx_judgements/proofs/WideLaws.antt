@@ -38,3 +38,15 @@ module _ (a b c : ℤ) (leaves : IsLeaving a) (travels : IsModest b) (turns : Is
 
   pub comes_in_range : IsComing (wide (wide (wide a +ℤ wide b) -ℤ wide c))
   comes_in_range = rw comes_at (omega (arith, ints), omega (arith, ints))
+
+-- sums and differences of two times that come
+module _ (a b : ℤ) (first : IsComing a) (second : IsComing b) where
+  pub sum_at : wide (wide a +ℤ wide b) ≡ a +ℤ b
+  sum_at =
+      rw (read_wide a (omega (arith, ints), omega (arith, ints)), read_wide b (omega (arith, ints), omega (arith, ints)))
+      (read_wide (a +ℤ b) (omega (arith, ints), omega (arith, ints)))
+
+  pub less_at : wide (wide a -ℤ wide b) ≡ a -ℤ b
+  less_at =
+      rw (read_wide a (omega (arith, ints), omega (arith, ints)), read_wide b (omega (arith, ints), omega (arith, ints)))
+      (read_wide (a -ℤ b) (omega (arith, ints), omega (arith, ints)))

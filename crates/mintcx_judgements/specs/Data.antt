@@ -7,7 +7,8 @@ use Rattle.mintc_timing.specs.Clocking.{shift_of}
 use Rattle.mintcx_amounts.specs.declared.unit.Unit.{Unit}
 use Rattle.mintcx_frame.specs.Names.{phase_name, element_name, kind_on_phase}
 use Rattle.mintcx_judgements.specs.Shown.{timed, measured, about}
-use Rattle.mintcx_judgements.specs.Sources.{leaving, longest, shortest, turning, coming_late, there, edge_of, setup_of, hold_of}
+use Rattle.mintcx_judgements.specs.Sources.{leaving, longest, shortest, turning, coming_late, there}
+use Rattle.mintcx_judgements.specs.Sources.{edge_of, setup_of, hold_of}
 
 -- an element with its kind and its phase
 abbrev pub element_in_words : Design → ℕ → List ℕ
@@ -19,10 +20,11 @@ source_line design s unit from takes leaves travel =
     codes "         from " ++ element_in_words design from ++ timed unit s (codes ": leaves at ") leaves
     ++ timed unit s takes travel ++ timed unit s (codes ", so comes at ") (leaves +ℤ travel)
 
--- the edge of an element's phase
+-- the words for the edge of an element's phase: a flop's starts it, a latch's ends it
 abbrev pub edge_word : Bool → List ℕ
 edge_word flop = if flop then codes " starts at " else codes " ends at "
 
+-- the name of an element's phase, and when its edge comes
 abbrev pub edge_text : Design → Schedule → Unit → ℕ → ℤ → List ℕ
 edge_text design s unit l edge =
     timed unit s (phase_name design (phase_of design l) ++ edge_word (element_at design l).flop) edge
@@ -69,8 +71,8 @@ setup_lines t s d unit l amount latest =
 abbrev pub soon_lines : Timing → Schedule → List ℤ → Unit → ℕ → Option ℕ → List (List ℕ)
 soon_lines t s d unit l None = []
 soon_lines t s d unit l (Some n) =
-    source_line t.flat s unit (pair_at t n).from (codes " and takes only ") (leaving t s d n +ℤ s.cycle -ℤ turning t s n)
-    (shortest t s n) ∷
+    source_line t.flat s unit (pair_at t n).from (codes " and takes only ")
+    (leaving t s d n +ℤ s.cycle -ℤ turning t s n) (shortest t s n) ∷
     held_line t.flat s unit l (edge_of t.flat s l) ∷ []
 
 -- a hold that fails, by the pair whose data comes first
@@ -90,11 +92,12 @@ lap_line t s unit n =
     ++ timed unit s (element_name t.flat (pair_at t n).to ++ codes " takes ") (longest t s n)
     ++ timed unit s (codes ", and has ") (given t s n)
 
--- the elements of a loop, from the first one back to it
+-- the name of the element at which a loop begins
 abbrev pub first_name : Timing → List ℕ → List ℕ
 first_name t [] = []
 first_name t (n ∷ ring) = element_name t.flat (pair_at t n).from
 
+-- an arrow to the second element of a pair
 abbrev pub arrow_to : Timing → ℕ → List ℕ
 arrow_to t n = codes " -> " ++ element_name t.flat (pair_at t n).to
 

@@ -1,6 +1,6 @@
 -- The text of a fail.
-use Rattle.std.specs.Prelude.{◌≡◌, ◌==◌, ◌<◌, ℕ, ℤ, pos, neg_ℤ, List, [], ◌∷◌, ◌++◌, codes, decimal, map, flat_map, length, slice_index_or}
-use Rattle.std.specs.Prelude.{if◌then◌else◌}
+use Rattle.std.specs.Prelude.{◌≡◌, ◌==◌, ◌<◌, ℕ, ℤ, pos, neg_ℤ, List, [], ◌∷◌, ◌++◌, codes, decimal}
+use Rattle.std.specs.Prelude.{map, flat_map, length, slice_index_or, if◌then◌else◌}
 use Rattle.std.specs.List.{range_with_len}
 use Rattle.std.specs.List.Sorted.{IsPermutation, IsSorted}
 use Rattle.std.specs.Ordering.{nat_cmp, int_cmp, ordering_then}
@@ -16,7 +16,8 @@ use Rattle.mintc_timing.specs.Violations.{check}
 use Rattle.mintcx_amounts.specs.declared.unit.Unit.{Unit}
 use Rattle.mintcx_frame.specs.declared.view.View.{View}
 use Rattle.mintcx_frame.specs.Ends.{head_text, foot_text, unit_for}
-use Rattle.mintcx_judgements.specs.Rules.{cycle_lines, order_lines, span_lines, width_lines, apart_lines, bound_lines, no_bound}
+use Rattle.mintcx_judgements.specs.Rules.{cycle_lines, order_lines, span_lines, width_lines, apart_lines}
+use Rattle.mintcx_judgements.specs.Rules.{bound_lines, no_bound}
 use Rattle.mintcx_judgements.specs.Data.{setup_lines, hold_lines, loop_lines}
 use Rattle.mintcx_judgements.specs.Sources.{latest_into, earliest_into}
 
@@ -33,6 +34,7 @@ broken_lines t s late early unit (broken.Loop ring) amount = loop_lines t s unit
 broken_lines t s late early unit (broken.Setup l) amount = setup_lines t s late unit l amount (latest_into t s late l)
 broken_lines t s late early unit (broken.Hold l) amount = hold_lines t s early unit l amount (earliest_into t s early l)
 
+-- the text of a violation
 abbrev pub violation_text : Timing → Schedule → List ℤ → List ℤ → Unit → Violation → List ℕ
 violation_text t s late early unit v = text_of (broken_lines t s late early unit v.broken v.amount)
 
@@ -53,13 +55,15 @@ rank_of (broken.Hold l) = 2
 abbrev pub violation_at : List Violation → ℕ → Violation
 violation_at vs n = slice_index_or vs n (check (broken.Cycle 0) (pos 0))
 
--- a violation's place: its rank, its amount turned round where the worst comes first, and its number
+-- what comes ahead among violations of one rank: the worst, where there is an order by amounts
 abbrev pub ahead_of : Violation → ℤ
 ahead_of v = if rank_of v.broken == 0 then pos 0 else neg_ℤ v.amount
 
+-- a violation's place: its rank, its amount turned round where the worst comes first, and its number
 abbrev pub place_of : List Violation → ℕ → ℕ × ℤ × ℕ
 place_of vs n = (rank_of (violation_at vs n).broken, ahead_of (violation_at vs n), n)
 
+-- places by their parts, the first part first
 abbrev pub place_cmp : ℕ × ℤ × ℕ → ℕ × ℤ × ℕ → Ordering
 place_cmp x y = ordering_then (ordering_then (nat_cmp x.0 y.0) (int_cmp x.1 y.1)) (nat_cmp x.2 y.2)
 
@@ -73,10 +77,11 @@ abbrev pub ranked_text : Timing → Schedule → List ℤ → List ℤ → Unit 
 ranked_text t s late early unit vs places =
     flat_map (λ (place : ℕ × ℤ × ℕ). violation_text t s late early unit (violation_at vs place.2)) places
 
--- how many there are
+-- the word for so many violations
 abbrev pub count_word : ℕ → List ℕ
 count_word n = if n == 1 then codes " violation:" else codes " violations:"
 
+-- how many violations there are
 abbrev pub count_line : ℕ → List ℕ
 count_line n = decimal n ++ count_word n
 

@@ -18,7 +18,8 @@ use Rattle.mintcx_frame.specs.Names.{element_name, kind_on_phase}
 use Rattle.mintcx_frame.specs.Phases.{phases_text, left, right}
 use Rattle.mintcx_frame.specs.Rows.{shown_rows, more_text}
 use Rattle.mintcx_judgements.specs.Fails.{place_cmp}
-use Rattle.mintcx_judgements.specs.Sources.{coming_late, coming_early, there, edge_of, setup_of, hold_of, latest_into, earliest_into}
+use Rattle.mintcx_judgements.specs.Sources.{coming_late, coming_early, there, edge_of, setup_of, hold_of}
+use Rattle.mintcx_judgements.specs.Sources.{latest_into, earliest_into}
 
 -- how much later the data of an element could be there, its setup kept: all data of a flop, where any comes
 abbrev pub setup_room : Timing → Schedule → List ℤ → ℕ → Option ℤ
@@ -47,18 +48,20 @@ element_row t s late early unit l =
     amount_text unit (over (departure late l) s.den) ∷ amount_text unit (over (departure early l) s.den) ∷
     element_name t.flat l ∷ kind_on_phase t.flat l ∷ []
 
--- the columns and the first row
+-- the columns of the table of rooms
 abbrev pub room_columns : List Column
 room_columns = right ∷ right ∷ right ∷ right ∷ left ∷ left ∷ []
 
+-- its first row
 abbrev pub room_head : List (List ℕ)
 room_head = codes "setup" ∷ codes "hold" ∷ codes "late" ∷ codes "early" ∷ codes "element" ∷ codes "on" ∷ []
 
--- The places of the elements: those with a room for the setup, the least first, then the others.
+-- the place of an element: those with a room for the setup come first, the least ahead
 abbrev pub room_place : ℕ → Option ℤ → ℕ × ℤ × ℕ
 room_place l (Some room) = (0, room, l)
 room_place l None = (1, pos 0, l)
 
+-- The places are those of all elements, in order.
 pub record AreByRoom (t : Timing) (s : Schedule) (late : List ℤ) (places : List (ℕ × ℤ × ℕ)) : Type 0 where
   pub permutation : IsPermutation (map (λ l. room_place l (setup_room t s late l)) (elements_of t.flat)) places
   pub sorted : IsSorted place_cmp places
@@ -66,8 +69,12 @@ pub record AreByRoom (t : Timing) (s : Schedule) (late : List ℤ) (places : Lis
 -- the table of rooms, as many rows of it as are shown
 abbrev pub rooms_grid : Timing → Schedule → List ℤ → List ℤ → Unit → List (ℕ × ℤ × ℕ) → Grid
 rooms_grid t s late early unit places =
-    record { columns = room_columns; rows = room_head ∷ map (λ (p : ℕ × ℤ × ℕ). element_row t s late early unit p.2) places }
+    record {
+      columns = room_columns;
+      rows = room_head ∷ map (λ (p : ℕ × ℤ × ℕ). element_row t s late early unit p.2) places;
+    }
 
+-- what stands above the table
 abbrev pub rooms_said : List ℕ
 rooms_said = codes "room that each setup and each hold leaves, the least setup first:"
 

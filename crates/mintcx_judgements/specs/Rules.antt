@@ -1,7 +1,7 @@
 -- Violations of the rules of the clock, in words. The first line says what is broken and by how much, the second with
 -- which numbers.
-use Rattle.std.specs.Prelude.{ℕ, zero, suc, ℤ, pos, ◌+◌, ◌+ℤ◌, ◌*ℤ◌, ◌==◌, ◌&&◌, List, [], ◌∷◌, ◌++◌, codes, decimal, if◌then◌else◌, int_lt}
-use Rattle.std.specs.Prelude.{Option, Some, None, slice_index_or}
+use Rattle.std.specs.Prelude.{ℕ, zero, suc, ℤ, pos, ◌+◌, ◌*ℤ◌, ◌==◌, List, [], ◌∷◌, ◌++◌, codes, decimal}
+use Rattle.std.specs.Prelude.{Option, Some, None, slice_index_or, if◌then◌else◌, int_lt}
 use Rattle.std.specs.List.{fold, range_with_len}
 use Rattle.mintc_timing.specs.declared.clocking.Schedule.{Schedule}
 use Rattle.mintc_timing.specs.declared.parts.Bound.{Bound}
@@ -19,7 +19,8 @@ abbrev pub cycle_lines : Design → Schedule → Unit → ℕ → ℤ → List (
 cycle_lines design s unit p amount =
     (measured unit s (about (codes "  cycle  ") (phase_name design p) (codes " starts ")) amount
     ++ codes " after the cycle ends") ∷
-    (timed unit s (codes "         it starts at ") (start_of s p) ++ timed unit s (codes ", the cycle is ") s.cycle) ∷ []
+    (timed unit s (codes "         it starts at ") (start_of s p)
+    ++ timed unit s (codes ", the cycle is ") s.cycle) ∷ []
 
 -- a phase starts after the next one
 abbrev pub order_lines : Design → Schedule → Unit → ℕ → ℤ → List (List ℕ)
@@ -35,12 +36,13 @@ span_lines design s unit p amount =
     ++ codes " more than a cycle") ∷
     (timed unit s (codes "         it is ") (width_of s p) ++ timed unit s (codes " wide, the cycle is ") s.cycle) ∷ []
 
--- the first of the elements on a phase that ask for the widest pulses
+-- of two elements, the second where it asks for the wider pulses, else the first
 abbrev pub wider_of : Design → Option ℕ → ℕ → Option ℕ
 wider_of design None l = Some l
 wider_of design (Some best) l =
     if int_lt (element_at design best).width (element_at design l).width then Some l else Some best
 
+-- the first of the elements on a phase that ask for the widest pulses
 abbrev pub widest_on : Design → ℕ → List ℕ → Option ℕ
 widest_on design p elements =
     fold (λ best l. if phase_of design l == p then wider_of design best l else best) None elements
@@ -48,7 +50,8 @@ widest_on design p elements =
 -- what it asks for, where there is one
 abbrev pub asking : Design → Schedule → Unit → Option ℕ → List ℕ
 asking design s unit None = codes " wide"
-asking design s unit (Some l) = timed unit s (about (codes " wide, ") (element_name design l) (codes " wants pulses of "))
+asking design s unit (Some l) =
+    timed unit s (about (codes " wide, ") (element_name design l) (codes " wants pulses of "))
     ((element_at design l).width *ℤ s.den)
 
 -- a phase is too narrow for an element
@@ -61,7 +64,8 @@ width_lines design s unit p amount =
 -- the first pair from an element on a phase to a latch on another
 abbrev pub first_between : Timing → ℕ → ℕ → List ℕ → Option ℕ
 first_between t i j [] = None
-first_between t i j (n ∷ numbers) = if is_pair_between t.flat i j (pair_at t n) then Some n else first_between t i j numbers
+first_between t i j (n ∷ numbers) =
+    if is_pair_between t.flat i j (pair_at t n) then Some n else first_between t i j numbers
 
 -- what could happen to its data
 abbrev pub racing : Timing → ℕ → ℕ → Option ℕ → List (List ℕ)
@@ -94,9 +98,14 @@ abbrev pub less_cycles : ℕ → List ℕ
 less_cycles zero = []
 less_cycles (suc cycles) = codes ", less a cycle"
 
+-- between which points a bound is, and what it asks for
+abbrev pub asked_line : Design → Schedule → Unit → Bound → List ℕ
+asked_line design s unit bound =
+    about (codes "         from ") (point_name design bound.from) (about (codes " to ") (point_name design bound.to)
+    (timed unit s (codes " it asks for ") (bound.gap *ℤ s.den))) ++ less_cycles bound.cycles
+
 -- a bound is missed
 abbrev pub bound_lines : Design → Schedule → Unit → ℕ → Bound → ℤ → List (List ℕ)
 bound_lines design s unit n bound amount =
     measured unit s (about (codes "  bound  bound ") (decimal (n + 1)) (codes " is missed by ")) amount ∷
-    (about (codes "         from ") (point_name design bound.from) (about (codes " to ") (point_name design bound.to)
-    (timed unit s (codes " it asks for ") (bound.gap *ℤ s.den))) ++ less_cycles bound.cycles) ∷ []
+    asked_line design s unit bound ∷ []

@@ -17,10 +17,11 @@ use Rattle.mintcx_judgements.specs.declared.causes.Sought.TheVariants.{Last, Fir
 abbrev pub leaving : Timing → Schedule → List ℤ → ℕ → ℤ
 leaving t s d n = start_of s (phase_of t.flat (pair_at t n).from) +ℤ departure d (pair_at t n).from
 
--- how long it takes to the second element, at the most and at the least
+-- how long it takes to the second element at the most
 abbrev pub longest : Timing → Schedule → ℕ → ℤ
 longest t s n = ((element_at t.flat (pair_at t n).from).dq_max +ℤ (pair_at t n).max) *ℤ s.den
 
+-- the same at the least
 abbrev pub shortest : Timing → Schedule → ℕ → ℤ
 shortest t s n = ((element_at t.flat (pair_at t n).from).dq_min +ℤ (pair_at t n).min) *ℤ s.den
 
@@ -32,9 +33,11 @@ turning t s n = pos (crosses_of (phase_of t.flat (pair_at t n).from) (phase_of t
 abbrev pub coming : Timing → Schedule → List ℤ → (ℕ → ℤ) → ℕ → ℤ
 coming t s d travel n = leaving t s d n +ℤ travel n -ℤ turning t s n
 
+-- the same at the latest
 abbrev pub coming_late : Timing → Schedule → List ℤ → ℕ → ℤ
 coming_late t s d n = coming t s d (longest t s) n
 
+-- the same at the earliest
 abbrev pub coming_early : Timing → Schedule → List ℤ → ℕ → ℤ
 coming_early t s d n = coming t s d (shortest t s) n
 
@@ -48,6 +51,7 @@ abbrev pub greatest_into : Timing → (ℕ → ℤ) → ℕ → List ℕ → Opt
 greatest_into t time l numbers =
     fold (λ best n. if (pair_at t n).to == l then greater_by time best n else best) None numbers
 
+-- the numbers of all pairs
 abbrev pub numbers_of : Timing → List ℕ
 numbers_of t = range_with_len 0 (length t.pairs)
 
@@ -56,10 +60,11 @@ abbrev pub number_by : Sought → Timing → Schedule → List ℤ → ℕ → �
 number_by Last t s d n = coming_late t s d n
 number_by First t s d n = neg_ℤ (coming_early t s d n)
 
--- the pair into an element whose data comes last, and the one whose data comes first
+-- the pair into an element whose data comes last
 abbrev pub latest_into : Timing → Schedule → List ℤ → ℕ → Option ℕ
 latest_into t s d l = greatest_into t (number_by Last t s d) l (numbers_of t)
 
+-- the pair into an element whose data comes first
 abbrev pub earliest_into : Timing → Schedule → List ℤ → ℕ → Option ℕ
 earliest_into t s d l = greatest_into t (number_by First t s d) l (numbers_of t)
 
@@ -74,10 +79,11 @@ pub record AreGreatest (t : Timing) (time : ℕ → ℤ) (k : ℕ) (found : List
 abbrev pub edge_of : Design → Schedule → ℕ → ℤ
 edge_of design s l = if (element_at design l).flop then start_of s (phase_of design l) else end_of s (phase_of design l)
 
--- how long before it, and how long after it the data stays
+-- how long before it the data has to be there
 abbrev pub setup_of : Design → Schedule → ℕ → ℤ
 setup_of design s l = (element_at design l).setup *ℤ s.den
 
+-- how long after it the data has to stay
 abbrev pub hold_of : Design → Schedule → ℕ → ℤ
 hold_of design s l = (element_at design l).hold *ℤ s.den
 

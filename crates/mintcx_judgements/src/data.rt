@@ -3,8 +3,8 @@ ghost use Rattle.std.specs.Prelude.{◌≡◌, ◌<◌, ◌++◌, length, flat_m
 ghost use Rattle.mintc_text.specs.Lines.{ended, text_of};
 ghost use Rattle.mintc_timing.specs.Design.{element_count};
 ghost use Rattle.mintcx_judgements.specs.Data.{arrow_to, edge_text, edge_word, element_in_words, first_name, given};
-ghost use Rattle.mintcx_judgements.specs.Data.{held_line, hold_lines, is_data, lap_line, late_lines, loop_lines, opening_lines};
-ghost use Rattle.mintcx_judgements.specs.Data.{setup_lines, soon_lines, source_line, wanted_line};
+ghost use Rattle.mintcx_judgements.specs.Data.{held_line, hold_lines, is_data, lap_line, late_lines, loop_lines};
+ghost use Rattle.mintcx_judgements.specs.Data.{opening_lines, setup_lines, soon_lines, source_line, wanted_line};
 ghost use Rattle.mintcx_judgements.specs.Shown.{IsComing};
 
 use crate::shown::{put_about, put_measured, put_timed};
@@ -43,8 +43,8 @@ fn put_source(
     requires from { from < element_count told.now.system.now.flat }
     requires leaves { IsComing leaves }
     requires travel { IsComing travel }
-    ensures { OnOk result (lines.new ≡ lines.old
-        ++ ended (source_line told.now.system.now.flat told.now.schedule.now told.now.unit from takes.now leaves travel)) }
+    ensures { OnOk result (lines.new ≡ lines.old ++ ended (source_line told.now.system.now.flat
+        told.now.schedule.now told.now.unit from takes.now leaves travel)) }
 {
     lines.put(b"         from ")?;
     put_element(lines, told, from)?;
@@ -180,15 +180,15 @@ pub(crate) fn put_setup(
     lines: &mut Lines,
     told: &Told<'_>,
     late: &[i64],
-    failed: (u32, i64),
+    element: u32,
+    amount: i64,
     latest: Option<usize>,
 ) -> Result<(), OutOfMemory>
-    requires element { failed.0 < element_count told.now.system.now.flat }
+    requires element { element < element_count told.now.system.now.flat }
     requires latest { IfSome latest (λ n. n < length told.now.system.now.pairs) }
     ensures { OnOk result (lines.new ≡ lines.old ++ text_of
-        (setup_lines told.now.system.now told.now.schedule.now late.now told.now.unit failed.0 failed.1 latest)) }
+        (setup_lines told.now.system.now told.now.schedule.now late.now told.now.unit element amount latest)) }
 {
-    let (element, amount) = failed;
     lines.put(b"  setup  ")?;
     put_element(lines, told, element)?;
     put_measured(lines, told, b" gets its data ", i128::from(amount))?;
@@ -230,15 +230,15 @@ pub(crate) fn put_hold(
     lines: &mut Lines,
     told: &Told<'_>,
     early: &[i64],
-    failed: (u32, i64),
+    element: u32,
+    amount: i64,
     earliest: Option<usize>,
 ) -> Result<(), OutOfMemory>
-    requires element { failed.0 < element_count told.now.system.now.flat }
+    requires element { element < element_count told.now.system.now.flat }
     requires earliest { IfSome earliest (λ n. n < length told.now.system.now.pairs) }
     ensures { OnOk result (lines.new ≡ lines.old ++ text_of
-        (hold_lines told.now.system.now told.now.schedule.now early.now told.now.unit failed.0 failed.1 earliest)) }
+        (hold_lines told.now.system.now told.now.schedule.now early.now told.now.unit element amount earliest)) }
 {
-    let (element, amount) = failed;
     lines.put(b"  hold   ")?;
     put_element(lines, told, element)?;
     put_measured(lines, told, b" gets its next data ", i128::from(amount))?;

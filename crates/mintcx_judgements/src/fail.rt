@@ -37,11 +37,11 @@ fn put_violation(
         Broken::Loop { pairs } => put_loop(lines, told, pairs.items(), amount),
         Broken::Setup { element } => {
             let latest = causes.latest(*element);
-            put_setup(lines, told, causes.late, (*element, amount), latest)
+            put_setup(lines, told, causes.late, *element, amount, latest)
         }
         Broken::Hold { element } => {
             let earliest = causes.earliest(*element);
-            put_hold(lines, told, causes.early, (*element, amount), earliest)
+            put_hold(lines, told, causes.early, *element, amount, earliest)
         }
     }
 }

@@ -76,6 +76,7 @@ fn rooms_table(alloc: Global, causes: &Causes<'_>, places: &[Place]) -> Result<T
     ensures { IfOk result (λ table. table ≡ rooms_grid causes.now.told.system.now causes.now.told.schedule.now
         causes.now.late.now causes.now.early.now causes.now.told.unit places.now) }
 {
+    let _flat = causes.told.flat();
     let mut table = Table::new(alloc, room_columns(alloc)?);
     table.push(room_head(alloc)?)?;
     for place in places {

@@ -1,10 +1,10 @@
 //! Violations of the rules of the clock, in words.
 ghost use Rattle.std.specs.Prelude.{◌≡◌, ◌<◌, ◌≤◌, ◌++◌, length, slice_index_or, IfSome, OnOk};
-ghost use Rattle.mintc_text.specs.Lines.{text_of};
+ghost use Rattle.mintc_text.specs.Lines.{ended, text_of};
 ghost use Rattle.mintc_timing.specs.Design.{element_count, phase_count};
-ghost use Rattle.mintc_timing.specs.Limits.{IsPhase, IsPoint};
-ghost use Rattle.mintcx_judgements.specs.Rules.{apart_lines, asking, bound_lines, cycle_lines, less_cycles, no_bound};
-ghost use Rattle.mintcx_judgements.specs.Rules.{order_lines, point_name, racing, span_lines, width_lines};
+ghost use Rattle.mintc_timing.specs.Limits.{IsBound, IsPhase, IsPoint};
+ghost use Rattle.mintcx_judgements.specs.Rules.{apart_lines, asked_line, asking, bound_lines, cycle_lines, less_cycles};
+ghost use Rattle.mintcx_judgements.specs.Rules.{no_bound, order_lines, point_name, racing, span_lines, width_lines};
 ghost use Rattle.mintcx_frame.specs.Names.{phase_name};
 ghost use Rattle.mintcx_judgements.specs.Shown.{about, measured};
 
@@ -13,7 +13,7 @@ use crate::sources::{cycle, scaled, start, width};
 use crate::told::Told;
 use crate::widest::{first_between, widest_on};
 use mintc_text::{Lines, OutOfMemory};
-use mintc_timing::Point;
+use mintc_timing::{Bound, Point};
 use mintcx_frame::put_number;
 
 /// Writes the beginning of a violation's first line: its kind, a phase, what it does, and by how much.
@@ -210,6 +210,22 @@ fn put_less(lines: &mut Lines, cycles: u32) -> Result<(), OutOfMemory>
     lines.put(b", less a cycle")
 }
 
+/// Writes between which points a bound is, and what it asks for.
+fn put_asked(lines: &mut Lines, told: &Told<'_>, bound: &Bound) -> Result<(), OutOfMemory>
+    requires { IsBound (phase_count told.now.system.now.flat) bound.now }
+    ensures { OnOk result (lines.new ≡ lines.old
+        ++ ended (asked_line told.now.system.now.flat told.now.schedule.now told.now.unit bound.now)) }
+{
+    let asked = scaled(told, bound.gap);
+    lines.put(b"         from ")?;
+    put_point(lines, told, bound.from)?;
+    lines.put(b" to ")?;
+    put_point(lines, told, bound.to)?;
+    put_timed(lines, told, b" it asks for ", asked)?;
+    put_less(lines, bound.cycles)?;
+    lines.put(b"\n")
+}
+
 /// Writes that a bound is missed. Bounds are counted from 0 here, and from 1 in the text.
 pub(crate) fn put_bound(
     lines: &mut Lines,
@@ -222,15 +238,10 @@ pub(crate) fn put_bound(
         ++ text_of (bound_lines told.now.system.now.flat told.now.schedule.now told.now.unit index
         (slice_index_or told.now.system.now.flat.bounds index no_bound) amount)) }
 {
-    let bound = &told.flat().bounds()[index as usize];
+    let _flat = told.flat();
     lines.put(b"  bound  bound ")?;
     put_number(lines, u64::from(index + 1))?;
     put_measured(lines, told, b" is missed by ", i128::from(amount))?;
-    lines.put(b"\n         from ")?;
-    put_point(lines, told, bound.from)?;
-    lines.put(b" to ")?;
-    put_point(lines, told, bound.to)?;
-    put_timed(lines, told, b" it asks for ", scaled(told, bound.gap))?;
-    put_less(lines, bound.cycles)?;
-    lines.put(b"\n")
+    lines.put(b"\n")?;
+    put_asked(lines, told, told.bound(index))
 }

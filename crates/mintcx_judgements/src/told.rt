@@ -1,10 +1,11 @@
 //! What a text tells of: a system under a schedule.
-ghost use Rattle.std.specs.Prelude.{◌≡◌, ◌<◌, length};
+ghost use Rattle.std.specs.Prelude.{◌≡◌, ◌<◌, length, slice_index_or};
 ghost use Rattle.mintc_timing.specs.Design.{element_at, element_count, phase_count};
-ghost use Rattle.mintc_timing.specs.Limits.{IsElement, IsInRange, IsPhase};
+ghost use Rattle.mintc_timing.specs.Limits.{IsBound, IsElement, IsInRange, IsPhase};
 ghost use Rattle.mintcx_frame.specs.Names.{element_name, phase_name};
+ghost use Rattle.mintcx_judgements.specs.Rules.{no_bound};
 
-use mintc_timing::{Element, Flat, Schedule, System};
+use mintc_timing::{Bound, Element, Flat, Schedule, System};
 use mintcx_amounts::Unit;
 
 /// A system, a schedule in range that has its phases, and the unit of the times that are told.
@@ -53,5 +54,14 @@ impl<'a> Told<'a> {
         ensures { result.now ≡ phase_name self.now.system.now.flat phase }
     {
         self.system.flat().phases().items()[phase as usize - 1].bytes()
+    }
+
+    /// A bound. Bounds are counted from 0.
+    pub fn bound(&self, number: u32) -> &'a Bound
+        requires { number < length self.now.system.now.flat.bounds }
+        ensures value { result.now ≡ slice_index_or self.now.system.now.flat.bounds number no_bound }
+        ensures kept { IsBound (phase_count self.now.system.now.flat) result.now }
+    {
+        &self.system.flat().bounds()[number as usize]
     }
 }
