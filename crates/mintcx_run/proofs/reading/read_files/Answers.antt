@@ -12,4 +12,4 @@ returns-in_err-bytes-clause-unread g c =
 pub loop-name-preserved : goal.loop-name-preserved
 loop-name-preserved g c =
     rw (more-names c.args.names.now c.loop-name.name-index c.name-item.result c.loop-name-test.true c.name-item.is, c.in-Ok.ensures.items)
-        (IsReading-more _ _ _ _ _ _ _ _ _ _ _ _ _ _ c.loop-name.invariant c.in_ok-bytes.ensures.front c.read_file.ensures.same c.read_file.ensures.later c.read_file.ensures.reads)
+    (IsReading-more _ _ _ _ _ _ _ _ _ _ _ _ _ _ c.loop-name.invariant c.in_ok-bytes.ensures.front c.read_file.ensures.same c.read_file.ensures.later c.read_file.ensures.reads)
