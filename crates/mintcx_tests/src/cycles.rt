@@ -3,7 +3,7 @@
 
 use mintc_build::{from_table, system};
 use mintc_tests_designs::{HOPELESS, TWO_LATCHES};
-use mintc_text::Stop;
+use mintc_text::{Limits, Stop};
 use mintcx_cycles::{AtCycle, at_cycle_uncounted};
 use std::alloc::Global;
 use std::process::Abort;
@@ -12,7 +12,9 @@ use std::test::Fail;
 /// What there is at a cycle time of a table's design.
 fn found(rt: &impl Abort, alloc: Global, table: &str, cycle: u32) -> Result<AtCycle, Stop> {
     assert!(rt; table.len() < 100_000);
-    let system = system(alloc, from_table(alloc, table.as_bytes())?)?;
+    let limits = Limits::usual();
+    let flat = from_table(alloc, &limits, table.as_bytes())?;
+    let system = system(alloc, &limits, flat)?;
     Ok(at_cycle_uncounted(alloc, &system, cycle)?)
 }
 
