@@ -18,6 +18,10 @@ pub decided : (old a b d e f g new p q r s t u v w : List ℕ) → a ≡ old ++ 
     new ≡ g ++ (v ++ w) → new ≡ old ++ (p ++ q ++ r ++ s ++ t ++ u ++ v ++ w)
 decided old a b d e f g new p q r s t u v w h i j k l m n = rw (n, m, l, k, j, i, h) (simp append_assoc)
 
+-- and of five, each written whole
+pub in_five : (old a b d e new p q r s t : List ℕ) → a ≡ old ++ p → b ≡ a ++ q → d ≡ b ++ r → e ≡ d ++ s → new ≡ e ++ t → new ≡ old ++ (p ++ q ++ r ++ s ++ t)
+in_five old a b d e new p q r s t h i j k l = rw (l, k, j, i, h) (simp append_assoc)
+
 -- data through some gates
 pub through : (old a b new : List ℕ) (gates : List (List ℕ)) → (length gates == 0) ≡ false → a ≡ old ++ codes "data" → b ≡ a ++ codes " through " →
     new ≡ b ++ gates_text gates → new ≡ old ++ data_text gates
