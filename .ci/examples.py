@@ -1,9 +1,10 @@
-"""Runs the programs that the gate has just proved and built, and says what isn't as it should be. No run here may write on standard
-error.
+"""Runs the programs that the gate has just proved and built, and says what isn't as it should be. No run of mintc or liberty2toml may
+write on standard error.
 
-- Examples: for each line `mintc WORDS > ANSWER` of a file `command` below examples/, in its folder, the program writes what the file
+- Examples: for each line `PROGRAM WORDS > ANSWER` of a file `command` below examples/, in its folder, the program writes what the file
   ANSWER has, and ends with the status in the same line of a file `status` beside it, 0 where there is no such file. Where a chain
-  begins is free, so its lines are compared as a ring.
+  begins is free for mintc, so its lines are compared as a ring.
+- Plain: for each line of mintc, mintcx with the same files by options and `--format plain` writes what mintc writes and ends so.
 - Statuses 2 to 7 of each program: 0 and 1 are those of examples.
 - Pieces: a table and its answer, each longer than 131,072 bytes, by files and by pipes.
 - Limits: a table with as many elements as there may be, and designs with more elements, pairs and arcs than there may be, of mintc and of
@@ -23,6 +24,8 @@ TOP = pathlib.Path(__file__).resolve().parent.parent
 MINTC = TOP / "crates/mintc/out/mintc"
 MINTC_LARGE = TOP / "crates/mintc_large/out/mintc_large"
 LIBERTY2TOML = TOP / "crates/liberty2toml/out/liberty2toml"
+MINTCX = TOP / "crates/mintcx/out/mintcx"
+PROGRAMS = {program.name: program for program in (MINTC, MINTC_LARGE, LIBERTY2TOML, MINTCX)}
 USAGE = (
     b"usage: mintc check|optimise|verify|report|safe|slack table|files|liberty FILE.. | mintc sample N | mintc corners V C K D D..\n"
 )
@@ -65,7 +68,7 @@ def is_same(text, wanted):
 
 
 def examples(folder):
-    """The lines of the examples below a folder: what each is, its folder, its words, its status and its answer."""
+    """The lines of the examples below a folder: what each is, its folder, its program, its words, its status and its answer."""
     for command in sorted(folder.rglob("command")):
         folder, lines = command.parent, command.read_text().splitlines()
         stated = folder / "status"
@@ -73,7 +76,8 @@ def examples(folder):
         assert len(statuses) == len(lines), f"{stated}: {len(lines)} lines are wanted"
         for line, status in zip(lines, statuses):
             words, answer = line.split(" > ")
-            yield f"{folder.relative_to(TOP)}: {line}", folder, words.split()[1:], int(status), (folder / answer).read_text()
+            name, *words = words.split()
+            yield f"{folder.relative_to(TOP)}: {line}", folder, PROGRAMS[name], words, int(status), (folder / answer).read_text()
 
 
 def other_answers(what, ran, status, wanted):
@@ -84,8 +88,37 @@ def other_answers(what, ran, status, wanted):
 
 def wrong_examples():
     """Examples with another answer or status."""
-    for what, folder, words, status, wanted in examples(TOP / "examples"):
-        yield from other_answers(what, run(MINTC, words, folder), status, wanted)
+    for what, folder, program, words, status, wanted in examples(TOP / "examples"):
+        ran = run(program, words, folder)
+        if program == MINTCX:
+            yield from differences(what, ran, status, wanted.encode())
+        else:
+            yield from other_answers(what, ran, status, wanted)
+
+
+def with_options(words):
+    """The words of mintcx for those of mintc, of a design or of corners."""
+    command, *rest = words
+    if command == "corners":
+        netlist, cells, clock, *delays = rest
+        files = ["--netlist", netlist, "--cells", cells, "--clock", clock, *(word for name in delays for word in ("--sdf", name))]
+        own = []
+    elif rest[0] == "table":
+        _, table, *own = rest
+        files = ["--table", table]
+    else:
+        source, netlist, delays, cells, clock, *own = rest
+        kind = "--lib" if source == "liberty" else "--cells"
+        files = ["--netlist", netlist, "--sdf", delays, kind, cells, "--clock", clock]
+    return [command, *own, *files, "--format", "plain"]
+
+
+def other_plain_answers():
+    """Examples of mintc that mintcx answers in another way, asked for mintc's own text."""
+    for what, folder, program, words, _, _ in examples(TOP / "examples"):
+        if program == MINTC:
+            status, output, _ = run(MINTC, words, folder)
+            yield from differences(f"{what}, by mintcx", run(MINTCX, with_options(words), folder), status, output)
 
 
 def with_pages(pages, words, folder):
@@ -101,7 +134,7 @@ def wrong_growths():
 
     least = bisect.bisect_left(range(16_384), True, key=starts)
     for name in ("latch-ring", "flattened", "flops-and-latches"):
-        what, folder, words, status, wanted = next(examples(TOP / "examples/from-tools" / name))
+        what, folder, _, words, status, wanted = next(examples(TOP / "examples/from-tools" / name))
         pages = least
         while (ran := with_pages(pages, words, folder)) == (6, b"", b""):
             pages += 1
@@ -223,8 +256,45 @@ def wrong_limits(program, most, *larger):
         yield from differences(f"{program.name}, {count}", ran, 2, f"refused 17 {count}\n".encode())
 
 
+def said(what, ran, status, front):
+    """Says where a run has another status, writes an answer, or doesn't begin so on standard error."""
+    if ran[:2] != (status, b"") or not ran[2].startswith(front):
+        yield f"{what}: {ran[0]}, {ran[1][:99]}, {ran[2][:99]} in place of {status}, nothing, {front}"
+
+
+def wrong_statuses_of_mintcx(folder, words, bad):
+    """Statuses of mintcx that don't come where they should. The words have an answer, and their last one is the name of a table; that
+    of a file `bad` in its place is refused."""
+    *before, _ = words
+    with tempfile.NamedTemporaryFile() as large:
+        large.truncate(60_000_000)
+        enough_for_words = limited(resource.RLIMIT_AS, 64_000_000)
+        for what, ran, status, front in [
+            ("a refused file", run(MINTCX, [*before, bad], folder), 2, b"error[1]: "),
+            ("no words", run(MINTCX, [], folder), 3, b""),
+            ("a word too many", run(MINTCX, [*words, bad], folder), 3, b"error: unexpected argument"),
+            ("no design", run(MINTCX, words[:-2], folder), 3, b"error: "),
+            ("a project file that is none", run(MINTCX, [*words[:-2], "-p", bad], folder), 3, b"error: "),
+            ("a missing file", run(MINTCX, [*before, "missing"], folder), 4, b"error: 'missing'"),
+            ("a folder as a file", run(MINTCX, [*before, "."], folder), 4, b"error: '.'"),
+            ("little memory", run(MINTCX, [*before, large.name], folder, preexec_fn=enough_for_words), 6, b""),
+            ("a word that is no UTF-8", run(MINTCX, [*before, b"\xff"], folder), 7, b""),
+        ]:
+            yield from said(f"mintcx, {what}", ran, status, front)
+    yield from differences("mintcx, a quiet run", run(MINTCX, [*words, "-q"], folder), 0, b"")
+    with open("/dev/full", "wb") as full:
+        yield from said("mintcx, a full output", run(MINTCX, words, folder, stdout=full), 5, b"")
+    with tempfile.TemporaryDirectory() as name:
+        answer = pathlib.Path(name) / "answer"
+        status, output, _ = run(MINTCX, words, folder)
+        yield from differences("mintcx, an answer in a file", run(MINTCX, [*words, "-o", answer], folder), status, b"")
+        if answer.read_bytes() != output:
+            yield f"mintcx, an answer in a file: {answer.read_bytes()[:99]} in place of {output[:99]}"
+
+
 def wrong():
     yield from wrong_examples()
+    yield from other_plain_answers()
     latches, ring = TOP / "examples/two-latches", TOP / "examples/from-tools/latch-ring"
     check = ["check", "table", "two.table", "two.schedule"]
     for program in (MINTC, MINTC_LARGE):
@@ -232,13 +302,14 @@ def wrong():
     yield from wrong_statuses(
         LIBERTY2TOML, ring, ["cells.lib"], "netlist.v", b"refused 1 cells 0\n", b"usage: liberty2toml FILE\n"
     )
+    yield from wrong_statuses_of_mintcx(latches, ["check", "two.schedule", "--table", "two.table"], "two.schedule")
     yield from wrong_pieces()
     yield from wrong_limits(MINTC, 2_000, 448, 10, 525_310)
     yield from wrong_limits(MINTC_LARGE, 20_000, 3_163, 15, 16_809_982)
     yield from wrong_growths()
 
 
-for program in (MINTC, MINTC_LARGE, LIBERTY2TOML):
+for program in PROGRAMS.values():
     if not program.is_file():
         sys.exit(f"{program} isn't there: rt ci builds it")
 found = list(wrong())

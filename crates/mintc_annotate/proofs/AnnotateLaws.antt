@@ -11,7 +11,7 @@ use Rattle.std.proofs.lemmas.List.Sums.{sum_by-append, length-filter, count_by-l
 use Rattle.std.proofs.lemmas.Slice.Zip.{AllZip-long}
 use Rattle.mintc_text.specs.Refusals.{over_limit}
 use Rattle.mintc_text.specs.declared.limits.Most.{Most}
-use Rattle.mintc_text.specs.declared.limits.TheConstants.{MOST_ELEMENTS, MOST_LEAVES}
+use Rattle.mintc_text.specs.declared.limits.TheConstants.{MOST_LEAVES}
 use Rattle.mintc_text.specs.Stops.{StopsAt}
 use Rattle.mintc_text.specs.declared.refusals.Kind.{Kind}
 use Rattle.mintc_text.specs.declared.refusals.Refusal.{Refusal}

@@ -1,5 +1,5 @@
 use Rattle.std.proofs.Common.{refl}
-use Rattle.mintc_text.proofs.OutsideLaws.{faults-later, failed-rose, IfOk-nothing}
+use Rattle.mintc_text.proofs.SharedOutsideLaws.{faults-later, failed-rose, IfOk-nothing}
 use Rattle.mintc_text.proofs.adapters.FolderShelfShelf.TheImpl.Goals as goal
 
 -- what a shelf owes that tells neither files nor calls and is never sound

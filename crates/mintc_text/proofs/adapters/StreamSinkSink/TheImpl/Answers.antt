@@ -1,5 +1,5 @@
 use Rattle.std.proofs.Common.{refl}
-use Rattle.mintc_text.proofs.OutsideLaws.{faults-later, err-rose, OnOk-always, OnErr-always}
+use Rattle.mintc_text.proofs.SharedOutsideLaws.{faults-later, err-rose, OnOk-always, OnErr-always}
 use Rattle.mintc_text.proofs.adapters.StreamSinkSink.TheImpl.Goals as goal
 
 -- what a sink owes that tells neither bytes nor calls

@@ -1,0 +1,119 @@
+-- Answers for people on the texts of a command, and why there is none.
+use Rattle.std.proofs.Common.{◌≡◌, ℕ, List, true, sym, subst, Result, Ok, Err, IfOk, IfErr}
+use Rattle.mintc_text.specs.Stops.{StopsAt}
+use Rattle.mintc_text.specs.declared.limits.Most.{Most}
+use Rattle.mintc_text.specs.declared.refusals.Refusal.{Refusal}
+use Rattle.mintc_text.specs.declared.refusals.Role.{Role}
+use Rattle.mintc_text.specs.declared.refusals.Stop.{Stop}
+use Rattle.mintc_text.specs.declared.refusals.Stop.TheVariants as stop
+use Rattle.mintc_timing.specs.Design.{Timing}
+use Rattle.mintc_timing.specs.declared.clocking.Schedule.{Schedule}
+use Rattle.mintc_certificate.specs.declared.certificate.Certificate.{Certificate}
+use Rattle.mintc_certificate.specs.declared.certificate.Certificate.TheVariants as certificate
+use Rattle.mintc_safe.specs.declared.certificate.SafeCertificate.{SafeCertificate}
+use Rattle.mintc_safe.specs.declared.certificate.SafeCertificate.TheVariants as kept
+use Rattle.mintc_slack.specs.declared.finding.Slacks.{Slacks}
+use Rattle.mintc_slack.specs.declared.finding.Slacks.TheVariants as slacks
+use Rattle.mintc_command_answers.specs.Answers.{IsFirstRefusal, IsJobRefusal, IsOfCommand, of_contents, too_long}
+use Rattle.mintc_command_answers.specs.Commands.{IsNumberInRange, roles_of}
+use Rattle.mintc_command_answers.specs.Jobs.{certificate_status, safe_status, slack_status}
+use Rattle.mintc_command_answers.specs.Sources.{AreShort, Gives, IsLengthRefusal, own_file}
+use Rattle.mintc_command_answers.specs.declared.answer.Answer.{Answer}
+use Rattle.mintc_command_answers.specs.declared.command.Command.{Command}
+use Rattle.mintc_command_answers.specs.declared.command.Command.TheVariants.{OfDesign, Sample, Corners}
+use Rattle.mintc_command_answers.specs.declared.command.Job.{Job}
+use Rattle.mintc_command_answers.specs.declared.command.Job.TheVariants.{Check, Optimise, Verify, Report, Safe, Slack}
+use Rattle.mintc_command_answers.specs.declared.command.Source.{Source}
+use Rattle.mintc_command_answers.specs.declared.status.Status.{Status}
+use Rattle.mintc_command_answers.specs.declared.status.Status.TheVariants as status
+use Rattle.mintcx_frame.specs.declared.view.View.{View}
+use Rattle.mintcx_cycles.specs.declared.cycles.AtCycle.{AtCycle}
+use Rattle.mintcx_cycles.specs.declared.cycles.AtCycle.TheVariants as at
+use Rattle.mintcx_translation.specs.declared.calls.Aspect.{Aspect}
+use Rattle.mintcx_translation.specs.declared.calls.Aspect.TheVariants as aspect
+use Rattle.mintcx_answers.specs.Answers.{HasAnswer, IsContentAnswer, IsJobAnswer, IsJudgement, IsOptimiseAnswer, cycle_status, has_text}
+
+-- a command that has a text
+pub in_range : (command : Command) → has_text command ≡ true → IsNumberInRange command
+in_range (OfDesign job source) worded = tt
+in_range (Sample number) worded = absurd (cc worded)
+in_range (Corners count) worded = absurd (cc worded)
+
+-- In a run with these limits.
+module _ (most : Most) where
+  -- what is answered on the texts of a design and on the text beside them
+  pub answer_on_file : {E : Type 0} (r : Result Answer E) (job : Job) (told : Aspect) (source : Source) (texts : List (List ℕ)) (t : Timing) (file : List ℕ) (view : View) → Gives most source texts t →
+      file ≡ own_file source texts → IfOk r (λ (a : Answer). IsJobAnswer most job told t file view a.status a.text) →
+      IfOk r (λ (a : Answer). IsContentAnswer most (OfDesign job source) told texts view a.status a.text)
+  answer_on_file (Err e) job told source texts t file view gives same h = tt
+  answer_on_file (Ok a) job told source texts t file view gives same h = (t, gives, subst (λ f. IsJobAnswer most job told t f view a.status a.text) same h)
+
+  -- so it is for a command that is of a design
+  pub answered : {E : Type 0} (r : Result Answer E) (command : Command) (job : Job) (told : Aspect) (source : Source) (texts : List (List ℕ)) (view : View) → command ≡ OfDesign job source → AreShort most texts →
+      IfOk r (λ (a : Answer). IsContentAnswer most (OfDesign job source) told texts view a.status a.text) → IfOk r (λ (a : Answer). HasAnswer most command told texts view a.status a.text)
+  answered (Err e) command job told source texts view is short h = tt
+  answered (Ok a) command job told source texts view is short h =
+      let own : HasAnswer most (OfDesign job source) told texts view a.status a.text = (short, h) in
+      subst (λ (x : Command). HasAnswer most x told texts view a.status a.text) (sym is) own
+
+  -- and so is what stops it
+  stopped_at : (job : Job) (source : Source) (texts : List (List ℕ)) (s : Stop) → AreShort most texts → StopsAt (IsJobRefusal most job source texts) s →
+      StopsAt (IsFirstRefusal most (OfDesign job source) texts) s
+  stopped_at job source texts (stop.Refused refused) short h = of_contents short h
+  stopped_at job source texts stop.OutOfMemory short h = tt
+
+  pub stopped : {A : Type 0} (r : Result A Stop) (command : Command) (job : Job) (source : Source) (texts : List (List ℕ)) → command ≡ OfDesign job source → AreShort most texts →
+      IfErr r (StopsAt (IsJobRefusal most job source texts)) → IfErr r (StopsAt (IsFirstRefusal most command texts))
+  stopped (Ok a) command job source texts is short h = tt
+  stopped (Err s) command job source texts is short h = subst (λ (x : Command). StopsAt (IsFirstRefusal most x texts) s) (sym is) (stopped_at job source texts s short h)
+
+  pub refused_length : (command : Command) (texts : List (List ℕ)) (roles : List Role) (refused : Refusal) → has_text command ≡ true → roles ≡ roles_of command →
+      IsLengthRefusal most roles texts refused → IsFirstRefusal most command texts refused
+  refused_length (OfDesign job source) texts roles refused worded same h = too_long (subst (λ (x : List Role). IsLengthRefusal most x texts refused) same h)
+  refused_length (Sample number) texts roles refused worded same h = absurd (cc worded)
+  refused_length (Corners count) texts roles refused worded same h = absurd (cc worded)
+
+  -- ---- the status of an answer
+
+  of_certificate : (c : Certificate) → IsOfCommand (certificate_status c)
+  of_certificate (certificate.Least s ds m) = tt
+  of_certificate (certificate.Never m) = tt
+
+  of_safe : (c : SafeCertificate) → IsOfCommand (safe_status c)
+  of_safe (kept.Least s ds m) = tt
+  of_safe (kept.Never m) = tt
+
+  of_slacks : (x : Slacks) → IsOfCommand (slack_status x)
+  of_slacks (slacks.Least c e) = tt
+  of_slacks slacks.Never = tt
+
+  of_judgement : (t : Timing) (s : Schedule) (view : View) (st : Status) (text : List ℕ) → IsJudgement t s view st text → IsOfCommand st
+  of_judgement t s view status.Done text h = tt
+  of_judgement t s view status.Found text h = tt
+  of_judgement t s view status.Refused text h = absurd h
+  of_judgement t s view status.Usage text h = absurd h
+  of_judgement t s view status.ReadFault text h = absurd h
+  of_judgement t s view status.WriteFault text h = absurd h
+  of_judgement t s view status.OutOfMemory text h = absurd h
+
+  of_cycle : (found : AtCycle) → IsOfCommand (cycle_status found)
+  of_cycle (at.Right s ds) = tt
+  of_cycle (at.Short m) = tt
+
+  of_optimise : (told : Aspect) (t : Timing) (view : View) (st : Status) (text : List ℕ) → IsOptimiseAnswer t told view st text → IsOfCommand st
+  of_optimise aspect.Whole t view st text (c, optimum, same, is_text) = subst IsOfCommand (sym same) (of_certificate c)
+  of_optimise (aspect.Cycle cycle) t view st text (found, is_at, same, is_text) = subst IsOfCommand (sym same) (of_cycle found)
+  of_optimise aspect.Histogram t view st text (c, optimum, same, is_text) = subst IsOfCommand (sym same) (of_certificate c)
+
+  of_job : (job : Job) (told : Aspect) (t : Timing) (file : List ℕ) (view : View) (st : Status) (text : List ℕ) → IsJobAnswer most job told t file view st text → IsOfCommand st
+  of_job Check told t file view st text (s, is_of, judged) = of_judgement t s view st text judged
+  of_job Optimise told t file view st text h = of_optimise told t view st text h
+  of_job Verify told t file view st text h = absurd h
+  of_job Report told t file view st text h = absurd h
+  of_job Safe told t file view st text (c, optimum, same, rest) = subst IsOfCommand (sym same) (of_safe c)
+  of_job Slack told t file view st text (few, (x, answer, same, is_text)) = subst IsOfCommand (sym same) (of_slacks x)
+
+  pub of_command : {E : Type 0} (r : Result Answer E) (job : Job) (told : Aspect) (source : Source) (texts : List (List ℕ)) (view : View) →
+      IfOk r (λ (a : Answer). IsContentAnswer most (OfDesign job source) told texts view a.status a.text) → IfOk r (λ (a : Answer). IsOfCommand a.status)
+  of_command (Err e) job told source texts view h = tt
+  of_command (Ok a) job told source texts view (t, gives, h) = of_job job told t (own_file source texts) view a.status a.text h

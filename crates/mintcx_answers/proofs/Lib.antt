@@ -1,0 +1,2 @@
+mod AnsweringLaws
+mod JobLaws

@@ -1,0 +1,330 @@
+//! What is asked of a design, in a text for people.
+ghost use Rattle.std.specs.Prelude.{◌≡◌, ◌≢◌, ◌≤◌, ◌+◌, ◌*◌, [], List, ℕ, true, length, IfOk, IfErr};
+ghost use Rattle.mintc_fraction.specs.Ratio.{IsModest, over};
+ghost use Rattle.mintc_text.specs.Stops.{StopsAt};
+ghost use Rattle.mintc_text.specs.declared.limits.TheConstants.{MOST_SLACK};
+ghost use Rattle.mintc_timing.specs.Design.{element_count, phase_count};
+ghost use Rattle.mintc_timing.specs.Limits.{IsInRange};
+ghost use Rattle.mintc_timing.specs.Violations.{AreViolations};
+ghost use Rattle.mintc_certificate.specs.declared.certificate.Certificate.{Certificate};
+ghost use Rattle.mintc_command_answers.specs.Jobs.{IsFileRefused, IsOptimum, IsScheduleRefused, certificate_status};
+ghost use Rattle.mintc_command_answers.specs.Jobs.{safe_status, slack_status};
+ghost use Rattle.mintc_slack.specs.Answers.{AreOfPairs};
+ghost use Rattle.mintcx_answers.specs.Answers.{IsCheckAnswer, IsCycleAnswer, IsFail, IsJobAnswer, IsJudgement};
+ghost use Rattle.mintcx_answers.specs.Answers.{IsOptimiseAnswer, IsOptimumAnswer, IsSafeAnswer, IsSlacksAnswer};
+ghost use Rattle.mintcx_answers.specs.Answers.{IsTextOfSlacks, cycle_status, job_has_text, least_cycle};
+
+use mintc_certificate::Certificate;
+use mintc_command_answers::{
+    Answer, Job, Status, optimum, room_for, safe_from, schedule_of, slacks_from,
+};
+use mintc_constraints::Room;
+use mintc_departure::{Settling, early, late, violations};
+use mintc_fraction::Fraction;
+use mintc_safe::SafeCertificate;
+use mintc_slack::Slacks;
+use mintc_text::limits::MOST_BYTES;
+use mintc_text::{Bytes, Kind, Limits, OutOfMemory, Refusal, Stop};
+use mintc_timing::{Schedule, System, Violation};
+use mintcx_cycles::{AtCycle, at_cycle_uncounted};
+use mintcx_frame::View;
+use mintcx_judgements::{Judged, fail_text, pass_text, violations_are_named};
+use mintcx_optima::{cycle_text, optimum_text, safe_text};
+use mintcx_slacks::{histogram_text, slack_text};
+use mintcx_translation::Aspect;
+use std::alloc::Global;
+use std::marker::Brand;
+use std::sync::ledger::Blank;
+
+/// What is asked of a design, and what of it is told.
+#[derive(Clone, Copy)]
+pub(crate) struct Question {
+    pub(crate) job: Job,
+    pub(crate) aspect: Aspect,
+}
+
+/// The text of a fail that breaks just these. Where its departures don't settle, it names none.
+fn failed(
+    alloc: Global,
+    system: &System,
+    schedule: &Schedule,
+    violations: &[Violation],
+    room: &mut Room,
+    view: &View,
+) -> Result<Bytes, OutOfMemory>
+    requires in_range { IsInRange schedule.now }
+    requires phases { length schedule.now.starts ≡ phase_count system.now.flat }
+    requires violations { AreViolations system.now schedule.now violations.now }
+    requires some { violations.now ≢ [] }
+    requires room { 1 + 2 * phase_count system.now.flat + element_count system.now.flat ≤ room.old.nodes }
+    ensures { IfOk result (IsFail system.now schedule.now view.now) }
+{
+    violations_are_named();
+    match late(system, schedule, room) {
+        Settling::Settled => {
+            early(system, schedule, room);
+            let judged = Judged {
+                system,
+                schedule,
+                late: room.late(),
+                early: room.early(),
+            };
+            fail_text(alloc, &judged, violations, view)
+        }
+        Settling::Loop => {
+            let judged = Judged {
+                system,
+                schedule,
+                late: &[],
+                early: &[],
+            };
+            fail_text(alloc, &judged, violations, view)
+        }
+    }
+}
+
+/// The judgement of a schedule: a pass, or a fail with all its violations.
+fn judge(
+    alloc: Global,
+    system: &System,
+    schedule: &Schedule,
+    view: &View,
+) -> Result<Answer, OutOfMemory>
+    requires in_range { IsInRange schedule.now }
+    requires phases { length schedule.now.starts ≡ phase_count system.now.flat }
+    ensures { IfOk result (λ answer. IsJudgement system.now schedule.now view.now answer.status answer.text) }
+{
+    let mut room = room_for(alloc, system)?;
+    let violations = violations(alloc, system, schedule, &mut room)?;
+    if violations.is_empty() {
+        let judged = Judged {
+            system,
+            schedule,
+            late: room.late(),
+            early: room.early(),
+        };
+        let text = pass_text(alloc, &judged, view)?;
+        return Ok(Answer {
+            status: Status::Done,
+            text,
+        });
+    }
+    let text = failed(
+        alloc,
+        system,
+        schedule,
+        violations.as_slice(),
+        &mut room,
+        view,
+    )?;
+    Ok(Answer {
+        status: Status::Found,
+        text,
+    })
+}
+
+/// The judgement of the schedule of a text, or why the text is refused.
+fn check_answer(alloc: Global, system: &System, file: &[u8], view: &View) -> Result<Answer, Stop>
+    requires { length file.now ≤ MOST_BYTES }
+    ensures value { IfOk result
+        (λ answer. IsCheckAnswer system.now file.now view.now answer.status answer.text) }
+    ensures stop { IfErr result (StopsAt (IsScheduleRefused file.now (phase_count system.now.flat))) }
+{
+    let schedule = schedule_of(file, system.flat().phase_count())?;
+    Ok(judge(alloc, system, &schedule, view)?)
+}
+
+/// How a run ends that has this certificate.
+fn status_of(certificate: &Certificate) -> Status
+    ensures { result ≡ certificate_status certificate.now }
+{
+    match certificate {
+        Certificate::Least { .. } => Status::Done,
+        Certificate::Never { .. } => Status::Found,
+    }
+}
+
+/// The text of the optimum.
+fn optimum_answer(alloc: Global, system: &System, view: &View) -> Result<Answer, OutOfMemory>
+    ensures { IfOk result (λ answer. IsOptimumAnswer system.now view.now answer.status answer.text) }
+{
+    let certificate = optimum(alloc, system)?;
+    let text = optimum_text(alloc, system, &certificate, view)?;
+    let status = status_of(&certificate);
+    Ok(Answer { status, text })
+}
+
+/// How a run ends that has found this at a cycle time.
+fn cycle_status(found: &AtCycle) -> Status
+    ensures { result ≡ cycle_status found.now }
+{
+    match found {
+        AtCycle::Right { .. } => Status::Done,
+        AtCycle::Short { .. } => Status::Found,
+    }
+}
+
+/// The text of what there is at a cycle time in femtoseconds.
+fn cycle_answer(
+    alloc: Global,
+    system: &System,
+    cycle: u32,
+    view: &View,
+) -> Result<Answer, OutOfMemory>
+    ensures { IfOk result (λ answer. IsCycleAnswer system.now cycle view.now answer.status answer.text) }
+{
+    let found = at_cycle_uncounted(alloc, system, cycle)?;
+    let text = cycle_text(alloc, system, cycle, &found, view)?;
+    let status = cycle_status(&found);
+    Ok(Answer { status, text })
+}
+
+/// The text of the least cycle time, or of what there is at another one.
+fn optimise_answer(
+    alloc: Global,
+    aspect: Aspect,
+    system: &System,
+    view: &View,
+) -> Result<Answer, OutOfMemory>
+    ensures { IfOk result (λ answer. IsOptimiseAnswer system.now aspect view.now answer.status answer.text) }
+{
+    match aspect {
+        Aspect::Cycle(cycle) => cycle_answer(alloc, system, cycle, view),
+        Aspect::Whole | Aspect::Histogram => optimum_answer(alloc, system, view),
+    }
+}
+
+/// The cycle time of a schedule, in femtoseconds.
+fn cycle_of(schedule: &Schedule) -> Fraction
+    requires { IsInRange schedule.now }
+    ensures value { result ≡ over schedule.now.cycle schedule.now.den }
+    ensures modest { IsModest result }
+{
+    Fraction::new(i128::from(schedule.cycle), i128::from(schedule.den))
+}
+
+/// The least cycle time in femtoseconds, 0 where no schedule is right.
+fn least_cycle(alloc: Global, system: &System) -> Result<Fraction, OutOfMemory>
+    ensures value { IfOk result
+        (λ cycle. (least : Certificate) × IsOptimum system.now least × (cycle ≡ least_cycle least)) }
+    ensures modest { IfOk result IsModest }
+{
+    let certificate = optimum(alloc, system)?;
+    match &certificate {
+        Certificate::Least { schedule, .. } => Ok(cycle_of(schedule)),
+        Certificate::Never { .. } => Ok(Fraction::new(0, 1)),
+    }
+}
+
+/// How a run ends that has this safe certificate.
+fn safe_status(certificate: &SafeCertificate) -> Status
+    ensures { result ≡ safe_status certificate.now }
+{
+    match certificate {
+        SafeCertificate::Least { .. } => Status::Done,
+        SafeCertificate::Never { .. } => Status::Found,
+    }
+}
+
+/// The text of the optimum that keeps each hold.
+fn safe_answer(alloc: Global, system: &System, view: &View) -> Result<Answer, OutOfMemory>
+    ensures { IfOk result (λ answer. IsSafeAnswer system.now view.now answer.status answer.text) }
+{
+    let certificate = safe_from::<Brand>(alloc, system, Blank::new(1))?;
+    let without = least_cycle(alloc, system)?;
+    let text = safe_text(alloc, system, &certificate, &without, view)?;
+    let status = safe_status(&certificate);
+    Ok(Answer { status, text })
+}
+
+/// How a run ends that has these slacks.
+fn slack_status(slacks: &Slacks) -> Status
+    ensures { result ≡ slack_status slacks.now }
+{
+    match slacks {
+        Slacks::Least { .. } => Status::Done,
+        Slacks::Never => Status::Found,
+    }
+}
+
+/// The text of slacks, a row for each pair or a count of pairs for each bar.
+fn text_of_slacks(
+    alloc: Global,
+    aspect: Aspect,
+    system: &System,
+    slacks: &Slacks,
+    view: &View,
+) -> Result<Bytes, OutOfMemory>
+    requires { AreOfPairs system.now slacks.now }
+    ensures { IfOk result (IsTextOfSlacks system.now aspect view.now slacks.now) }
+{
+    match aspect {
+        Aspect::Histogram => histogram_text(alloc, system, slacks, view),
+        Aspect::Whole | Aspect::Cycle(_) => slack_text(alloc, system, slacks, view),
+    }
+}
+
+/// The text of the slacks at the least cycle time.
+fn slack_answer_within(
+    alloc: Global,
+    aspect: Aspect,
+    system: &System,
+    view: &View,
+) -> Result<Answer, OutOfMemory>
+    requires { element_count system.now.flat ≤ MOST_SLACK }
+    ensures { IfOk result (λ answer. IsSlacksAnswer system.now aspect view.now answer.status answer.text) }
+{
+    let slacks = slacks_from::<Brand>(alloc, system, Blank::new(1))?;
+    let text = text_of_slacks(alloc, aspect, system, &slacks, view)?;
+    let status = slack_status(&slacks);
+    Ok(Answer { status, text })
+}
+
+/// The text of the slacks, or the limit of the elements for which slacks are found.
+fn slack_answer(
+    alloc: Global,
+    limits: &Limits,
+    aspect: Aspect,
+    system: &System,
+    view: &View,
+) -> Result<Answer, Stop>
+    ensures value { (file : List ℕ) → IfOk result
+        (λ answer. IsJobAnswer limits.now Job.Slack aspect system.now file view.now answer.status answer.text) }
+    ensures stop { (file : List ℕ) → IfErr result
+        (StopsAt (IsFileRefused limits.now Job.Slack system.now.flat file)) }
+{
+    let elements = system.flat().elements().len();
+    if elements > limits.most().slack {
+        return Err(Stop::Refused(Refusal::Limit {
+            kind: Kind::Elements,
+            count: elements as u64,
+        }));
+    }
+    Ok(slack_answer_within(alloc, aspect, system, view)?)
+}
+
+/// The answer to a job that has a text, on a system and on the file that stands beside the design's, or why that file
+/// is refused.
+pub(crate) fn job_text(
+    alloc: Global,
+    limits: &Limits,
+    question: Question,
+    system: &System,
+    file: &[u8],
+    view: &View,
+) -> Result<Answer, Stop>
+    requires short { length file.now ≤ MOST_BYTES }
+    requires worded { job_has_text question.job ≡ true }
+    ensures value { IfOk result
+        (λ answer. IsJobAnswer limits.now question.job question.aspect system.now file.now view.now answer.status
+        answer.text) }
+    ensures stop { IfErr result (StopsAt (IsFileRefused limits.now question.job system.now.flat file.now)) }
+{
+    match question.job {
+        Job::Check => check_answer(alloc, system, file, view),
+        Job::Optimise => Ok(optimise_answer(alloc, question.aspect, system, view)?),
+        Job::Safe => Ok(safe_answer(alloc, system, view)?),
+        Job::Slack => slack_answer(alloc, limits, question.aspect, system, view),
+        Job::Verify | Job::Report => unreachable!(),
+    }
+}

@@ -1,0 +1,13 @@
+//! What is answered to a command of mintc in a text for people: a status, which is mintc's own, and a text.
+//!
+//! It goes the way of mintc: from the first bytes of the files to the system of their design, from there to what is
+//! asked of it, and at the end to another text, by the crates that write for people. Where mintc refuses the files,
+//! this is mintc's first refusal. Nothing is read or written here.
+#![tactic(auto)]
+
+mod answering;
+mod jobs;
+mod subjects;
+
+pub use answering::{answer_text, has_text};
+pub use subjects::subject_of;

@@ -1,0 +1,6 @@
+mod FoundLaws
+mod HoldLaws
+mod NeverLaws
+mod OptimumLaws
+mod RingLaws
+mod WrittenLaws

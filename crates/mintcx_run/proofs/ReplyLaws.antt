@@ -1,0 +1,59 @@
+-- The replies to words, requests and calls.
+use Rattle.std.proofs.Common.{◌≡◌, ◌+◌, ◌<◌, ℕ, List, length, get_or, false, refl, sym, subst, inl, inr, Option, Result, Ok, Err, IfErr, Contains}
+use Rattle.std.proofs.lemmas.List.Elements.{Contains-get_or}
+use Rattle.mintc_text.specs.declared.limits.TheConstants.{MOST_BYTES}
+use Rattle.mintc_text.specs.Outside.{Files}
+use Rattle.mintc_command.specs.Answers.{AreFronts, MakesAtMost}
+use Rattle.mintc_command.proofs.SharedCalls.{MakesAtMost-none, MakesAtMost-sum}
+use Rattle.mintc_command_answers.specs.declared.status.Status.TheVariants.{Usage}
+use Rattle.mintcx_requests.specs.Requests.{Text, request_of}
+use Rattle.mintcx_requests.specs.declared.given.Given.{Given}
+use Rattle.mintcx_requests.specs.declared.requests.Request.{Request}
+use Rattle.mintcx_requests.specs.declared.requests.Request.TheVariants as request
+use Rattle.mintcx_project.specs.declared.project.Settings.{Settings}
+use Rattle.mintcx_translation.specs.declared.calls.Gap.TheVariants as gap
+use Rattle.mintcx_answers.specs.Answers.{has_text}
+use Rattle.mintcx_run.specs.declared.calling.Order.{Order}
+use Rattle.mintcx_run.specs.declared.reply.Reply.{Reply}
+use Rattle.mintcx_run.specs.Replies.{AreUnread, IsAnswerReply, IsCallReply, IsEarlyReply, IsGapReply, IsGiven, IsGivenReply, IsMessage, IsOrderOf, IsOrdered, IsReply, IsSettings, IsUnread, IsWordsReply}
+
+-- an explanation isn't there yet
+pub explain_gap : (asked : Request) (topic : Text) (reply : Reply) → asked ≡ request.Explain topic → IsMessage Usage reply → IsGapReply asked reply
+explain_gap asked topic reply is h =
+    let own : IsGapReply (request.Explain topic) reply = inr (inl (gap.Explain, refl, h)) in
+    subst (λ (x : Request). IsGapReply x reply) (sym is) own
+
+-- nor a text of a command
+pub unworded : (r : Result Order Reply) (asked : Request) (order : Order) → IsOrderOf asked order →
+    IfErr r (λ (reply : Reply). (has_text order.call.command ≡ false) × IsMessage Usage reply) → IfErr r (IsGapReply asked)
+unworded (Ok o) asked order is h = tt
+unworded (Err reply) asked order is h = inr (inr (order, is, h.0, h.1))
+
+-- so the request has no call
+pub early_gap : (r : Result Order Reply) (given : Given) (files : Option Files) (settings : Settings) (asked : Request) → IsSettings files given.project settings → request_of given settings ≡ Ok asked →
+    IfErr r (IsGapReply asked) → IfErr r (IsEarlyReply given files)
+early_gap (Ok o) given files settings asked said is h = tt
+early_gap (Err reply) given files settings asked said is h = inr (settings, said, inr (asked, is, h))
+
+-- one of the files can't be read
+pub unread_one : (names : List Text) (n : ℕ) (name : Text) (reply : Reply) → n < length names → name ≡ get_or names n name → IsUnread name reply → AreUnread names reply
+unread_one names n name reply below is h = inr (name, subst (λ (x : Text). Contains names x) (sym is) (Contains-get_or names n name below), h)
+
+-- the answer to a call, of files that are read
+pub call_answered : (files : Option Files) (order : Order) (fronts : List Text) (reply : Reply) → AreFronts files (MOST_BYTES + 1) order.call.files fronts → IsAnswerReply order fronts reply →
+    IsCallReply files order reply
+call_answered files order fronts reply are h = inr (fronts, are, h)
+
+-- with one read for the project file, and one for each file
+pub given_answered : (given : Given) (files : Option Files) (order : Order) (reply : Reply) (a b c : Option ℕ) → IsOrdered given files order → IsCallReply files order reply →
+    MakesAtMost 1 a b → MakesAtMost (length order.call.files) b c → (reads : ℕ) × IsGivenReply given files reads reply × MakesAtMost reads a c
+given_answered given files order reply a b c ordered h first rest =
+    (1 + length order.call.files, inr (order, refl, ordered, h), MakesAtMost-sum 1 (length order.call.files) a b c first rest)
+
+-- words that give something, and those that give nothing
+pub words_given : (words : List Text) (given : Given) (files : Option Files) (reply : Reply) (a b : Option ℕ) → IsGiven words given →
+    ((reads : ℕ) × IsGivenReply given files reads reply × MakesAtMost reads a b) → (reads : ℕ) × IsReply words files reads reply × MakesAtMost reads a b
+words_given words given files reply a b is (reads, h, calls) = (reads, inr (given, is, h), calls)
+
+pub words_wrong : (words : List Text) (files : Option Files) (reply : Reply) (a : Option ℕ) → IsWordsReply words reply → (reads : ℕ) × IsReply words files reads reply × MakesAtMost reads a a
+words_wrong words files reply a h = (0, inl (refl, h), MakesAtMost-none a)

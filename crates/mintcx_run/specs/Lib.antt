@@ -1,0 +1,4 @@
+-- What contracts of public calls and laws say:
+pub mod Folders
+pub mod Replies
+pub mod Deliveries

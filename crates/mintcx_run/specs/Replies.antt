@@ -1,0 +1,219 @@
+-- What a run replies to its words, over the files of a shelf, and what it leaves.
+use Rattle.std.specs.Prelude.{◌≡◌, ◌≢◌, ◌<◌, ◌≤◌, ◌+◌, ◌⊎◌, ℕ, List, length, Option, Some, None}
+use Rattle.std.specs.Prelude.{true, false, Ok, Err, Contains, IsUtf8, codes, if◌then◌else◌}
+use Rattle.clap.specs.Words.{App}
+use Rattle.mintc_text.specs.Limits.{large}
+use Rattle.mintc_text.specs.declared.limits.TheConstants.{MOST_BYTES}
+use Rattle.mintc_text.specs.declared.refusals.Refusal.{Refusal}
+use Rattle.mintc_text.specs.Outside.{Files, IsFront}
+use Rattle.mintc_command.specs.Answers.{AreFronts}
+use Rattle.mintc_command_answers.specs.Answers.{IsDefined, IsFirstRefusal, IsOfCommand}
+use Rattle.mintc_command_answers.specs.declared.status.Status.{Status}
+use Rattle.mintc_command_answers.specs.declared.status.Status.TheVariants.{Done, Refused, Usage, ReadFault}
+use Rattle.mintc_command_answers.specs.declared.status.Status.TheVariants.{OutOfMemory}
+use Rattle.mintcx_manners.specs.declared.manners.Format.TheVariants as format
+use Rattle.mintcx_project.specs.Projects.{IsFaultOf, Says, no_settings}
+use Rattle.mintcx_project.specs.declared.project.ProjectFault.{ProjectFault}
+use Rattle.mintcx_project.specs.declared.project.ProjectFault.TheVariants as fault
+use Rattle.mintcx_project.specs.declared.project.Settings.{Settings}
+use Rattle.mintcx_requests.specs.Requests.{Text, request_of}
+use Rattle.mintcx_requests.specs.declared.given.Given.{Given}
+use Rattle.mintcx_requests.specs.declared.requests.Fault.{Fault}
+use Rattle.mintcx_requests.specs.declared.requests.Manner.{Manner}
+use Rattle.mintcx_requests.specs.declared.requests.Request.{Request}
+use Rattle.mintcx_requests.specs.declared.requests.Request.TheVariants as request
+use Rattle.mintcx_translation.specs.Calls.{call_for}
+use Rattle.mintcx_translation.specs.declared.calls.Call.{Call}
+use Rattle.mintcx_translation.specs.declared.calls.Gap.{Gap}
+use Rattle.mintcx_translation.specs.declared.calls.Gap.TheVariants as gap
+use Rattle.mintcx_words.specs.CommandLine.{IsProgram}
+use Rattle.mintcx_words.specs.Misread.{IsReading}
+use Rattle.mintcx_words.specs.declared.words.Misread.{Misread}
+use Rattle.mintcx_words.specs.declared.words.Misread.TheVariants as misread
+use Rattle.mintcx_answers.specs.Answers.{HasAnswer, has_text}
+use Rattle.mintcx_frame.specs.declared.view.View.{View}
+use Rattle.mintcx_run.specs.declared.calling.Order.{Order}
+use Rattle.mintcx_run.specs.declared.reply.Place.{Place}
+use Rattle.mintcx_run.specs.declared.reply.Place.TheVariants as place
+use Rattle.mintcx_run.specs.declared.reply.Reply.{Reply}
+
+-- ---- kinds of replies
+
+-- memory was wanting, and nothing is written
+abbrev pub IsOutOfMemory : Reply → Type 0
+IsOutOfMemory reply = (reply.status ≡ OutOfMemory) × (reply.place ≡ place.Nowhere)
+
+-- this text, or memory was wanting
+abbrev pub IsSaying : Status → Place → Text → Reply → Type 0
+IsSaying status to text reply =
+    ((reply.status ≡ status) × ((reply.place ≡ to) × (reply.text ≡ text))) ⊎ IsOutOfMemory reply
+
+-- a message with this status for the second sink, or memory was wanting
+abbrev pub IsMessage : Status → Reply → Type 0
+IsMessage status reply = ((reply.status ≡ status) × (reply.place ≡ place.Errors)) ⊎ IsOutOfMemory reply
+
+-- ---- the words
+
+-- the words give this
+abbrev pub IsGiven : List Text → Given → Type 0
+IsGiven words given = (a : App) × IsProgram a × IsReading a words (Ok given)
+
+-- what is said where words give nothing: help or the version as an answer, and else a message
+abbrev pub IsMisreadReply : Misread → Reply → Type 0
+IsMisreadReply (misread.Answer text) reply = IsSaying Done place.Output text reply
+IsMisreadReply misread.OutOfMemory reply = IsOutOfMemory reply
+IsMisreadReply (misread.Wrong text) reply = IsSaying Usage place.Errors text reply
+IsMisreadReply misread.NoCommand reply = IsMessage Usage reply
+
+-- the words give nothing, and this is said
+abbrev pub IsWordsReply : List Text → Reply → Type 0
+IsWordsReply words reply =
+    (a : App) × (why : Misread) × IsProgram a × IsReading a words (Err why) × IsMisreadReply why reply
+
+-- ---- the project file
+
+-- the project file of this name says this, by its first bytes, which aren't too many
+abbrev pub IsSaidBy : Option Files → Text → Settings → Type 0
+IsSaidBy files name settings = (text : Text) × IsFront files name (MOST_BYTES + 1) text × (length text ≤ MOST_BYTES)
+    × Says name text settings
+
+-- What a project file says: the one that is named, or else mintc.toml; where mintc.toml can't be read, nothing is said.
+abbrev pub IsSettings : Option Files → Option Text → Settings → Type 0
+IsSettings files None settings = IsSaidBy files (codes "mintc.toml") settings ⊎ (settings ≡ no_settings)
+IsSettings files (Some name) settings = IsSaidBy files name settings
+
+-- what is said of a fault of a project file
+abbrev pub IsFaultReply : ProjectFault → Reply → Type 0
+IsFaultReply fault.OutOfMemory reply = IsOutOfMemory reply
+IsFaultReply why reply = IsMessage Usage reply
+
+-- the text of a project file is too long, or says nothing
+abbrev pub IsSilentReply : Text → Reply → Type 0
+IsSilentReply text reply = ((MOST_BYTES < length text) × IsMessage Usage reply)
+    ⊎ ((why : ProjectFault) × IsFaultOf text why × IsFaultReply why reply)
+
+-- a file can't be read, or its name isn't text
+abbrev pub IsUnread : Text → Reply → Type 0
+IsUnread name reply = IsMessage ReadFault reply ⊎ ((IsUtf8 name → ⊥) × IsMessage Usage reply)
+
+-- one of the files can't be read
+abbrev pub AreUnread : List Text → Reply → Type 0
+AreUnread names reply = IsOutOfMemory reply ⊎ ((name : Text) × Contains names name × IsUnread name reply)
+
+-- the project file of this name says nothing, by its first bytes
+abbrev pub IsSilentIn : Option Files → Text → Reply → Type 0
+IsSilentIn files name reply =
+    (text : Text) × IsFront files name (MOST_BYTES + 1) text × IsSilentReply text reply
+
+-- The project file gives no settings: the one that is named can't be read, or its text says nothing.
+abbrev pub IsSettingsReply : Option Files → Option Text → Reply → Type 0
+IsSettingsReply files None reply = IsSilentIn files (codes "mintc.toml") reply ⊎ IsOutOfMemory reply
+IsSettingsReply files (Some name) reply = IsSilentIn files name reply ⊎ IsUnread name reply
+
+-- ---- the request, and the call of mintc for it
+
+-- the request is this call of mintc, and its answer is given so
+abbrev pub IsOrderOf : Request → Order → Type 0
+IsOrderOf (request.Explain topic) order = ⊥
+IsOrderOf (request.OfDesign what files clamp manner) order =
+    (call_for manner.format clamp what files ≡ Ok order.call) × (order.manner ≡ manner)
+
+-- this of a request isn't there yet
+abbrev pub HasGap : Request → Gap → Type 0
+HasGap (request.Explain topic) missing = missing ≡ gap.Explain
+HasGap (request.OfDesign what files clamp manner) missing = call_for manner.format clamp what files ≡ Err missing
+
+-- the answer to a call has the form that is asked: mintc's own, or a text for people that is there
+abbrev pub IsWorded : Order → Type 0
+IsWorded order = (order.manner.format ≡ format.Plain) ⊎ (has_text order.call.command ≡ true)
+
+-- something of a request isn't there yet, maybe the text for people, and it is said
+abbrev pub IsGapReply : Request → Reply → Type 0
+IsGapReply asked reply = IsOutOfMemory reply ⊎ (((missing : Gap) × HasGap asked missing × IsMessage Usage reply)
+    ⊎ ((order : Order) × IsOrderOf asked order × (has_text order.call.command ≡ false) × IsMessage Usage reply))
+
+-- words and settings are no request, and it is said why
+abbrev pub IsFaultyReply : Given → Settings → Reply → Type 0
+IsFaultyReply given settings reply = (why : Fault) × (request_of given settings ≡ Err why) × IsMessage Usage reply
+
+-- ---- the answer
+
+-- a status of answers and their refusals, or memory was wanting
+abbrev pub IsOfReply : Status → Type 0
+IsOfReply status = IsOfCommand status ⊎ (status ≡ OutOfMemory)
+
+-- the place of a file's name, or the first sink
+abbrev pub place_for : Option Text → Place
+place_for None = place.Output
+place_for (Some name) = place.File name
+
+-- where an answer goes
+abbrev pub place_of : Manner → Place
+place_of manner = if manner.quiet then place.Nowhere else place_for manner.output
+
+-- the plain answer to a call, of the first bytes of its files: mintc's own, at the largest limits
+pub record IsPlain (order : Order) (fronts : List Text) (reply : Reply) : Type 0 where
+  pub defined : IsDefined large order.call.command fronts reply.status reply.text
+  pub of_command : IsOfCommand reply.status
+  pub placed : reply.place ≡ place_of order.manner
+
+-- that, or memory was wanting
+abbrev pub IsPlainReply : Order → List Text → Reply → Type 0
+IsPlainReply order fronts reply = IsOutOfMemory reply ⊎ IsPlain order fronts reply
+
+-- the answer to a call for people, in the unit and with the rows that are asked
+pub record IsForPeople (order : Order) (fronts : List Text) (reply : Reply) : Type 0 where
+  pub view : View
+  pub unit : view.unit ≡ order.manner.unit
+  pub limit : view.limit ≡ order.manner.limit
+  pub answered : HasAnswer large order.call.command order.call.aspect fronts view reply.status reply.text
+  pub of_command : IsOfCommand reply.status
+  pub placed : reply.place ≡ place_of order.manner
+
+-- that; or mintc's first refusal, as a message; or memory was wanting
+abbrev pub IsTextReply : Order → List Text → Reply → Type 0
+IsTextReply order fronts reply = IsOutOfMemory reply ⊎ (IsForPeople order fronts reply
+    ⊎ ((refused : Refusal) × IsFirstRefusal large order.call.command fronts refused × IsMessage Refused reply))
+
+-- the answer in its form
+abbrev pub IsAnswerReply : Order → List Text → Reply → Type 0
+IsAnswerReply order fronts reply = ((order.manner.format ≡ format.Plain) × IsPlainReply order fronts reply)
+    ⊎ ((order.manner.format ≢ format.Plain) × IsTextReply order fronts reply)
+
+-- The reply to a call of mintc over the files of a shelf: a file can't be read, or the answer in its form, of the first
+-- bytes of the files, one more than a file may have.
+abbrev pub IsCallReply : Option Files → Order → Reply → Type 0
+IsCallReply files order reply = AreUnread order.call.files reply
+    ⊎ ((fronts : List Text) × AreFronts files (MOST_BYTES + 1) order.call.files fronts
+    × IsAnswerReply order fronts reply)
+
+-- What the words give and a project file are this call.
+pub record IsOrdered (given : Given) (files : Option Files) (order : Order) : Type 0 where
+  pub settings : Settings
+  pub asked : Request
+  pub said : IsSettings files given.project settings
+  pub requested : request_of given settings ≡ Ok asked
+  pub is_order : IsOrderOf asked order
+
+-- words and settings are no request, or one of which something isn't there yet
+abbrev pub IsRequestReply : Given → Settings → Reply → Type 0
+IsRequestReply given settings reply = IsFaultyReply given settings reply
+    ⊎ ((asked : Request) × (request_of given settings ≡ Ok asked) × IsGapReply asked reply)
+
+-- The reply where what the words give is no call, by the project file, or by the request.
+abbrev pub IsEarlyReply : Given → Option Files → Reply → Type 0
+IsEarlyReply given files reply = IsSettingsReply files given.project reply
+    ⊎ ((settings : Settings) × IsSettings files given.project settings × IsRequestReply given settings reply)
+
+-- The reply to what the words give, with at most so many reads: one of the project file, and one of each file of a
+-- call.
+abbrev pub IsGivenReply : Given → Option Files → ℕ → Reply → Type 0
+IsGivenReply given files reads reply = ((reads ≡ 1) × IsEarlyReply given files reply)
+    ⊎ ((order : Order) × (reads ≡ 1 + length order.call.files) × IsOrdered given files order
+    × IsCallReply files order reply)
+
+-- The reply of a run to its words over the files of a shelf, with at most so many reads: none where the words give
+-- nothing.
+abbrev pub IsReply : List Text → Option Files → ℕ → Reply → Type 0
+IsReply words files reads reply = ((reads ≡ 0) × IsWordsReply words reply)
+    ⊎ ((given : Given) × IsGiven words given × IsGivenReply given files reads reply)

@@ -1,0 +1,103 @@
+//! A run: words, files, one answer.
+ghost use Rattle.std.specs.Prelude.{◌≡◌, ◌≢◌, ◌⊎◌, ℕ, map, string_bytes};
+ghost use Rattle.mintc_text.specs.Outside.{Rose};
+ghost use Rattle.mintc_command.specs.Answers.{MakesAtMost};
+ghost use Rattle.mintcx_run.specs.declared.reply.Reply.{Reply};
+ghost use Rattle.mintcx_run.specs.Deliveries.{IsDelivered, IsMade, IsWritten, sent};
+ghost use Rattle.mintcx_run.specs.Replies.{IsReply};
+
+use crate::calling::reply_to;
+use crate::folder::Folder;
+use crate::reply::{Place, Reply};
+use mintc_command_answers::Status;
+use mintc_text::{Name, Shelf, Sink};
+use std::alloc::Global;
+
+/// Writes an answer by one call. The status is the answer's, or that the write failed.
+fn write<O: Sink>(out: &mut O, status: Status, text: &[u8]) -> Status
+    requires { status ≢ Status.WriteFault }
+    ensures left { IsWritten status text.now result (O.taken out.old) (O.taken out.new) }
+    ensures cause { result ≡ Status.WriteFault → Rose (O.faults out.old) (O.faults out.new) }
+    ensures writes { MakesAtMost 1 (O.calls out.old) (O.calls out.new) }
+{
+    match out.write(text) {
+        Ok(()) => status,
+        Err(_) => Status::WriteFault,
+    }
+}
+
+/// Makes a file of an answer by one call. The status is the answer's, or that the file couldn't be made.
+fn make<F: Folder>(folder: &mut F, name: &Name, status: Status, text: &[u8]) -> Status
+    requires { status ≢ Status.WriteFault }
+    ensures left { IsMade status name.now text.now result (F.made folder.old) (F.made folder.new) }
+    ensures cause { result ≡ Status.WriteFault → Rose (F.faults folder.old) (F.faults folder.new) }
+    ensures makes { MakesAtMost 1 (F.calls folder.old) (F.calls folder.new) }
+{
+    match folder.make(name.bytes(), text) {
+        Ok(()) => status,
+        Err(_) => Status::WriteFault,
+    }
+}
+
+/// Tells a message by one call. Where that can't be written, nothing is said of it.
+fn tell<E: Sink>(errors: &mut E, text: &[u8])
+    ensures { MakesAtMost 1 (E.calls errors.old) (E.calls errors.new) }
+{
+    let _ = errors.write(text);
+}
+
+/// Writes a reply by one call, to where it goes. The status is the reply's, or that an answer couldn't be written.
+fn deliver<O: Sink, E: Sink, F: Folder>(
+    reply: &Reply,
+    out: &mut O,
+    errors: &mut E,
+    folder: &mut F,
+) -> Status
+    requires { reply.now.status ≢ Status.WriteFault }
+    ensures delivered { IsDelivered reply.now result (sent (O.taken out.old) (O.taken out.new))
+        (sent (E.taken errors.old) (E.taken errors.new)) (sent (F.made folder.old) (F.made folder.new)) }
+    ensures cause { result ≡ Status.WriteFault →
+        Rose (O.faults out.old) (O.faults out.new) ⊎ Rose (F.faults folder.old) (F.faults folder.new) }
+    ensures unread { result ≡ Status.ReadFault → reply.now.status ≡ Status.ReadFault }
+    ensures writes { MakesAtMost 1 (O.calls out.old) (O.calls out.new) }
+    ensures tells { MakesAtMost 1 (E.calls errors.old) (E.calls errors.new) }
+    ensures makes { MakesAtMost 1 (F.calls folder.old) (F.calls folder.new) }
+{
+    let text = reply.text.items();
+    match &reply.place {
+        Place::Output => write(out, reply.status, text),
+        Place::File(name) => make(folder, name, reply.status, text),
+        Place::Errors => {
+            tell(errors, text);
+            reply.status
+        }
+        Place::Nowhere => reply.status,
+    }
+}
+
+/// Does what the words ask, of which the first is the program's own name: reads the project file and the files that
+/// they name, each once and in their order, and writes the answer, or what is wrong, by one call. Nothing is written
+/// before the text is whole.
+pub fn run<S: Shelf, O: Sink, E: Sink, F: Folder>(
+    alloc: Global,
+    words: &[String],
+    shelf: &mut S,
+    out: &mut O,
+    errors: &mut E,
+    folder: &mut F,
+) -> Status
+    ensures replied { (reads : ℕ) × (reply : Reply)
+        × IsReply (map string_bytes words.now) (S.files shelf.old) reads reply × MakesAtMost reads (S.calls shelf.old) (S.calls shelf.new)
+        × IsDelivered reply result (sent (O.taken out.old) (O.taken out.new))
+        (sent (E.taken errors.old) (E.taken errors.new)) (sent (F.made folder.old) (F.made folder.new)) }
+    ensures same { S.files shelf.new ≡ S.files shelf.old }
+    ensures read_cause { result ≡ Status.ReadFault → Rose (S.faults shelf.old) (S.faults shelf.new) }
+    ensures write_cause { result ≡ Status.WriteFault →
+        Rose (O.faults out.old) (O.faults out.new) ⊎ Rose (F.faults folder.old) (F.faults folder.new) }
+    ensures writes { MakesAtMost 1 (O.calls out.old) (O.calls out.new) }
+    ensures tells { MakesAtMost 1 (E.calls errors.old) (E.calls errors.new) }
+    ensures makes { MakesAtMost 1 (F.calls folder.old) (F.calls folder.new) }
+{
+    let reply = reply_to(alloc, words, shelf);
+    deliver(&reply, out, errors, folder)
+}

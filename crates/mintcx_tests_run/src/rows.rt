@@ -1,0 +1,275 @@
+//! Words, and what a run with them leaves.
+
+use crate::runs::are_as_wanted;
+use mintc_tests_designs::{
+    TWO_CELLS, TWO_CERTIFICATE, TWO_CLOCK, TWO_DELAYS, TWO_LATCHES, TWO_LIBRARY, TWO_NETLIST,
+    TWO_SCHEDULE,
+};
+use std::test::Fail;
+
+/// The words of a run, and its status, what the two sinks took and what was made.
+pub(crate) type Row = (&'static str, &'static str);
+
+/// Rows over the same files.
+pub(crate) struct Rows {
+    pub(crate) files: &'static [(&'static str, &'static str)],
+    pub(crate) rows: &'static [Row],
+}
+
+/// A schedule of the table that is too fast.
+const FAST: &str = "schedule 1\nden 1\ncycle 80\nphases 2\nphase 0 10\nphase 10 30\nend\n";
+
+/// The least cycle time of the table.
+const LEAST: &str = "0|least  cycle 100 fs, 10.000 THz  (two.table)
+
+  phase  starts  ends  width
+  phi1        0    10     10
+  phi2       10    40     30
+
+decided by a chain of 2 constraints that takes 100 fs in 1 cycle:
+
+  cycle  from   at  borrows  delay  to  through
+      1  a       0              30  b
+      1  b      30       20     70  a
+      2  a     100
+
+times in fs
+||";
+
+/// What there is at a cycle time above the least one.
+const RIGHT: &str = "0|right  cycle 1000 ps, 1000.000 MHz  (two.table)
+
+  phase  starts  ends  width
+  phi1        0  0.01   0.01
+  phi2     0.01  0.04   0.03
+
+times in ps
+||";
+
+/// What there is at one below it.
+const SHORT: &str = "1|short  cycle 80 fs, 12.500 THz  (two.table)
+
+a chain of 2 constraints takes 100 fs in 1 cycle, and so needs a cycle of 100:
+
+  from  delay  cycles  to  through
+  a        30       0  b
+  b        70       1  a
+
+times in fs
+||";
+
+/// The least cycle time of the table that keeps each hold.
+const SAFE: &str = "0|safe  cycle 100 fs, 10.000 THz  (two.table)
+keeping each hold, with each output as early as it can be; without holds 100 fs would do
+
+  phase  starts  ends  width
+  phi1        0    10     10
+  phi2       10    40     30
+
+decided by a chain of 2 constraints that takes 100 fs in 1 cycle:
+
+  cycle  from   at  borrows  delay  to  through
+      1  a       0              30  b
+      1  b      30       20     70  a
+      2  a     100
+
+times in fs
+||";
+
+/// The slacks of the table.
+const SLACK: &str = "0|slack  cycle 100 fs, 10.000 THz  (two.table)
+
+2 pairs of elements; 2 have no slack and hold the clock back
+
+  slack  from  to  delay
+      0  a     b      30
+      0  b     a      70
+
+times in fs; slack is how much a pair's delay may grow, alone, at this cycle
+||";
+
+/// The slacks of the table, counted.
+const BARS: &str = "0|slack  cycle 100 fs, 10.000 THz  (two.table)
+
+2 pairs of elements; 2 have no slack and hold the clock back
+
+  slack  pairs
+   none      2  ########################################
+
+times in fs
+||";
+
+/// The judgement of the right schedule.
+const PASS: &str = "0|pass  cycle 100 fs, 10.000 THz  (two.table under two.schedule)
+
+  phase  starts  ends  width
+  phi1        0    10     10
+  phi2       10    40     30
+
+room that each setup and each hold leaves, the least setup first:
+
+  setup  hold  late  early  element  on
+      0           0      0  a        latch on phi1
+      0          20     20  b        latch on phi2
+
+times in fs; late and early are when data leaves, from the start of the phase
+||";
+
+/// The judgement of the one that is too fast.
+const FAIL: &str = "1|fail  cycle 80 fs, 12.500 THz  (two.table under fast.schedule)
+
+1 violation:
+
+  loop   data comes 20 fs later each time round a -> b -> a
+         a to b takes 30, and has 10
+         b to a takes 70, and has 70
+         no data settles, so setups and holds can't be judged
+
+times in fs
+||";
+
+/// The least cycle time of the files.
+const LEAST_OF_FILES: &str = "0|least  cycle 100 fs, 10.000 THz  (two)
+
+  phase  starts  ends  width
+  p1          0    10     10
+  p2         10    40     30
+
+decided by a chain of 2 constraints that takes 100 fs in 1 cycle:
+
+  cycle  from      at  borrows  delay  to       through
+      1  u1.l[0]    0              30  u2.l[0]  b
+      1  u2.l[0]   30       20     70  u1.l[0]  b
+      2  u1.l[0]  100
+
+times in fs
+||";
+
+/// The least cycle time of the files with a library.
+const LEAST_OF_LIBRARY: &str = "0|least  cycle 80 fs, 12.500 THz  (two)
+
+  phase  starts  ends  width
+  p1          0     0      0
+  p2          0    20     20
+
+decided by a chain of 2 constraints that takes 80 fs in 1 cycle:
+
+  cycle  from     at  borrows  delay  to       through
+      1  u1.l[0]   0              20  u2.l[0]  b
+      1  u2.l[0]  20       20     60  u1.l[0]  b
+      2  u1.l[0]  80
+
+times in fs
+||";
+
+/// What is said where a command has no text for people.
+const NO_TEXT: &str =
+    "3||error: this command has no text for people yet; '--format plain' gives that of mintc\n|";
+
+/// A project file of a table.
+const PROJECT: &str = "[design]\ntable = \"two.table\"\n";
+
+/// A table with its schedule and its certificate.
+const TABLE: Rows = Rows {
+    files: &[
+        ("two.table", TWO_LATCHES),
+        ("two.schedule", TWO_SCHEDULE),
+        ("two.cert", TWO_CERTIFICATE),
+        ("fast.schedule", FAST),
+        ("mintc.toml", PROJECT),
+        ("chip/mintc.toml", PROJECT),
+        ("bad.toml", "[design]\ntabel = \"two.table\"\n"),
+    ],
+    rows: &[
+        (
+            "mintcx check two.schedule --format plain",
+            "0|pass\nelement a late 0/1 early 0/1\nelement b late 20/1 early 20/1\n||",
+        ),
+        (
+            "mintcx check two.schedule --table two.table --format plain -q",
+            "0|||",
+        ),
+        (
+            "mintcx verify two.cert --format plain -o told",
+            "0|||toldvalid\n",
+        ),
+        (
+            "mintcx verify two.schedule --format plain",
+            "2|refused 1 certificate 1\n||",
+        ),
+        (
+            "mintcx check two.cert",
+            "2||error[1]: refused 1 schedule 1\n|",
+        ),
+        (
+            "mintcx optimise -p chip/mintc.toml",
+            "4||error: 'chip/two.table' can't be read\n|",
+        ),
+        (
+            "mintcx optimise -p bad.toml",
+            "3||error: 'bad.toml': `tabel` is no key here\n|",
+        ),
+        (
+            "mintcx optimise -p none.toml",
+            "4||error: 'none.toml' can't be read\n|",
+        ),
+        ("mintcx optimise --cycle 1ns", RIGHT),
+        ("mintcx optimise --cycle 80fs", SHORT),
+        (
+            "mintcx optimise --cycle 80fs --format plain",
+            "3||error: '--cycle' has no plain form; '--format text' has one\n|",
+        ),
+        (
+            "mintcx optimise --lib x --table y",
+            "3||error: a table stands in place of the four files, and both are named\n|",
+        ),
+        ("mintcx --version", "0|mintcx 0.1.0\n||"),
+        ("mintcx optimise", LEAST),
+        ("mintcx report", NO_TEXT),
+        ("mintcx safe", SAFE),
+        ("mintcx slack", SLACK),
+        ("mintcx slack --histogram", BARS),
+        ("mintcx verify two.cert", NO_TEXT),
+        ("mintcx check two.schedule", PASS),
+        ("mintcx check fast.schedule", FAIL),
+    ],
+};
+
+/// A netlist with delays, cells, a library and a clock.
+const FILES: Rows = Rows {
+    files: &[
+        ("two.v", TWO_NETLIST),
+        ("two.sdf", TWO_DELAYS),
+        ("two.toml", TWO_CELLS),
+        ("two.lib", TWO_LIBRARY),
+        ("clock.toml", TWO_CLOCK),
+    ],
+    rows: &[
+        (
+            "mintcx optimise --netlist two.v --sdf two.sdf --cells two.toml --clock clock.toml",
+            LEAST_OF_FILES,
+        ),
+        (
+            "mintcx optimise --netlist two.v --sdf two.sdf --lib two.lib --clock clock.toml",
+            LEAST_OF_LIBRARY,
+        ),
+        (
+            "mintcx corners --netlist two.v --sdf two.sdf --sdf two.sdf --cells two.toml --clock clock.toml",
+            NO_TEXT,
+        ),
+        (
+            "mintcx optimise --netlist two.v --sdf two.sdf --lib two.lib --clock-cell X --clock clock.toml",
+            "3||error: '--clock-cell' isn't there yet; liberty2toml writes cells to be edited\n|",
+        ),
+    ],
+};
+
+#[test]
+fn tables_are_answered(rt: HostRuntime) -> Result<(), Fail> {
+    are_as_wanted(&rt, rt.alloc(), &TABLE)
+}
+
+#[test]
+fn files_are_answered(rt: HostRuntime) -> Result<(), Fail> {
+    are_as_wanted(&rt, rt.alloc(), &FILES)
+}
