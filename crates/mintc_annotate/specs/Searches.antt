@@ -1,5 +1,6 @@
 -- What the table of a search holds.
-use Rattle.std.specs.Prelude.{◌≡◌, ◌<◌, ◌≤◌, ℕ, zero, suc, Bool, false, not, if◌then◌else◌, List, length, slice_index_or}
+use Rattle.std.specs.Prelude.{◌≡◌, ◌<◌, ◌≤◌, ℕ, zero, suc, Bool, false, not, if◌then◌else◌, List, length}
+use Rattle.std.specs.Prelude.{slice_index_or}
 use Rattle.std.specs.Prelude.{Option, None, Some, All}
 use Rattle.mintc_annotate.specs.declared.searching.Drive.{Drive}
 use Rattle.mintc_annotate.specs.declared.searching.Spot.{Spot}

@@ -1,5 +1,6 @@
 -- What is kept of a module's items to find names that come again.
-use Rattle.std.specs.Prelude.{◌≡◌, ℕ, List, [], ◌∷◌, ◌++◌, Bool, true, not, ◌||◌, cond, bytes_eq, Option, Some, None, false}
+use Rattle.std.specs.Prelude.{◌≡◌, ℕ, List, [], ◌∷◌, ◌++◌, Bool, true, not, ◌||◌, cond, bytes_eq, Option, Some, None}
+use Rattle.std.specs.Prelude.{false}
 use Rattle.std.specs.Option.{option_or, option_map_or}
 use Rattle.std.specs.List.{flat_map}
 use Rattle.mintc_netlist.specs.declared.module.Item.{Item}

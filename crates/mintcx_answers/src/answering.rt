@@ -47,8 +47,8 @@ fn design_text(
 }
 
 /// The answer to a command in a text for people, of the first bytes of its files, shown in this view, or their first
-/// refusal, which is mintc's; the aspect says what of it is told. The memory of the files is given back once their design
-/// is read.
+/// refusal, which is mintc's; the aspect says what of it is told. The memory of the files is given back once their
+/// design is read.
 pub fn answer_text(
     alloc: Global,
     limits: &Limits,

@@ -1,5 +1,6 @@
 -- What a stage goes through, in words.
-use Rattle.std.specs.Prelude.{ℕ, zero, suc, ◌+◌, ◌-◌, List, [], ◌∷◌, ◌++◌, length, take, map, slice_index_or, codes, decimal}
+use Rattle.std.specs.Prelude.{ℕ, zero, suc, ◌+◌, ◌-◌, List, [], ◌∷◌, ◌++◌, length, take, map, slice_index_or, codes}
+use Rattle.std.specs.Prelude.{decimal}
 use Rattle.std.specs.Prelude.{if◌then◌else◌, nat_le}
 use Rattle.mintc_text.specs.Lines.{words}
 use Rattle.mintc_timing.specs.declared.link.LinkKind.{LinkKind}

@@ -1,5 +1,6 @@
 -- Where a chain begins.
-use Rattle.std.specs.Prelude.{◌≡◌, ◌<◌, ◌-◌, ◌*◌, ℕ, ℤ, pos, Bool, ◌||◌, if◌then◌else◌, nat_le, nat_lt, int_lt, List, ◌++◌}
+use Rattle.std.specs.Prelude.{◌≡◌, ◌<◌, ◌-◌, ◌*◌, ℕ, ℤ, pos, Bool, ◌||◌, if◌then◌else◌, nat_le, nat_lt, int_lt, List}
+use Rattle.std.specs.Prelude.{◌++◌}
 use Rattle.std.specs.Prelude.{length, take, drop, slice_index_or, All, IsFalse}
 use Rattle.std.specs.Ordering.{int_eq}
 use Rattle.mintc_timing.specs.declared.link.LinkKind.TheVariants.{Other}

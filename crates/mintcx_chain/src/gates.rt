@@ -1,5 +1,6 @@
 //! The gates of a path, by the names of its bits.
-ghost use Rattle.std.specs.Prelude.{◌≡◌, ◌<◌, ◌++◌, ◌∷◌, ◌==◌, if◌then◌else◌, [], None, Some, length, IfSome, IfOk, OnOk, MatchOption};
+ghost use Rattle.std.specs.Prelude.{◌≡◌, ◌<◌, ◌++◌, ◌∷◌, ◌==◌, if◌then◌else◌, [], None, Some, length, IfSome, IfOk};
+ghost use Rattle.std.specs.Prelude.{OnOk, MatchOption};
 ghost use Rattle.mintcx_chain.specs.Gates.{bit_name, gate_between, gate_of, gates_of, place_of_last};
 ghost use Rattle.mintcx_chain.specs.Gates.{short_name};
 

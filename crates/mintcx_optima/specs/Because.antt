@@ -1,5 +1,6 @@
 -- Why a stage of a chain asks for time, in words.
-use Rattle.std.specs.Prelude.{ℕ, ◌+◌, ◌==◌, ℤ, pos, ◌&&◌, Bool, if◌then◌else◌, int_lt, List, [], ◌∷◌, ◌++◌, codes, decimal}
+use Rattle.std.specs.Prelude.{ℕ, ◌+◌, ◌==◌, ℤ, pos, ◌&&◌, Bool, if◌then◌else◌, int_lt, List, [], ◌∷◌, ◌++◌, codes}
+use Rattle.std.specs.Prelude.{decimal}
 use Rattle.std.specs.Prelude.{find, Option, Some, None, option_map}
 use Rattle.std.specs.Ordering.{int_eq}
 use Rattle.mintc_timing.specs.declared.link.LinkKind.{LinkKind}

@@ -60,7 +60,8 @@ short_grid design unit stages =
 
 -- the text of the table, with as many stages as a limit allows, and the line for those that it leaves out
 abbrev pub hops_text : Design → Unit → List Stage → Limit → List ℕ
-hops_text design unit stages limit = table_text (short_grid design unit (take (shown_rows limit (length stages)) stages))
+hops_text design unit stages limit =
+    table_text (short_grid design unit (take (shown_rows limit (length stages)) stages))
     ++ more_text limit (length stages)
 
 -- The text of a cycle time that a chain forbids: its head, how long the chain takes, and its stages.

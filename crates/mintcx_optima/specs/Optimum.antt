@@ -26,8 +26,8 @@ abbrev pub IsNeverOf : Design → List Member → View → List ℕ → Type 0
 IsNeverOf design chain view text = (stages : List Stage) × AreStages design [] chain stages
     × (text ≡ never_text design stages view)
 
--- The text of a certificate: that of the least cycle with the chain that forbids every smaller one, or that of the chain
--- that forbids every cycle time.
+-- The text of a certificate: that of the least cycle with the chain that forbids every smaller one, or that of the
+-- chain that forbids every cycle time.
 abbrev pub IsOptimumText : Design → Certificate → View → List ℕ → Type 0
 IsOptimumText design (Least s d chain) view text = IsLeastOf design s d chain view text
 IsOptimumText design (Never chain) view text = IsNeverOf design chain view text

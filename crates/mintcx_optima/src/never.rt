@@ -4,7 +4,8 @@ ghost use Rattle.mintc_text.specs.declared.limits.TheConstants.{MOST_MEMBERS};
 ghost use Rattle.mintcx_chain.specs.Names.{IsShort, IsStage};
 ghost use Rattle.mintcx_optima.specs.Because.{because_text};
 ghost use Rattle.mintcx_optima.specs.Least.{IsRing};
-ghost use Rattle.mintcx_optima.specs.Never.{asks_text, claim_text, greatest_delay, never_columns, never_cells, never_grid};
+ghost use Rattle.mintcx_optima.specs.Never.{asks_text, claim_text, greatest_delay, never_columns, never_cells};
+ghost use Rattle.mintcx_optima.specs.Never.{never_grid};
 ghost use Rattle.mintcx_optima.specs.Never.{never_head, none_text, stages_text};
 
 use crate::because::put_because;

@@ -94,9 +94,9 @@ fn safe_never_of(
     Ok(Bytes::new(lines.into_bytes()))
 }
 
-/// The text of a safe certificate for people: the least cycle time that keeps each hold, with the phases of its schedule
-/// and the chain that forbids every smaller one, or the chain that forbids every cycle time. The least cycle time
-/// without holds is told beside it.
+/// The text of a safe certificate for people: the least cycle time that keeps each hold, with the phases of its
+/// schedule and the chain that forbids every smaller one, or the chain that forbids every cycle time. The least cycle
+/// time without holds is told beside it.
 pub fn safe_text(
     alloc: Global,
     system: &System,

@@ -87,7 +87,8 @@ pub fn run<S: Shelf, O: Sink, E: Sink, F: Folder>(
     folder: &mut F,
 ) -> Status
     ensures replied { (reads : ℕ) × (reply : Reply)
-        × IsReply (map string_bytes words.now) (S.files shelf.old) reads reply × MakesAtMost reads (S.calls shelf.old) (S.calls shelf.new)
+        × IsReply (map string_bytes words.now) (S.files shelf.old) reads reply
+        × MakesAtMost reads (S.calls shelf.old) (S.calls shelf.new)
         × IsDelivered reply result (sent (O.taken out.old) (O.taken out.new))
         (sent (E.taken errors.old) (E.taken errors.new)) (sent (F.made folder.old) (F.made folder.new)) }
     ensures same { S.files shelf.new ≡ S.files shelf.old }

@@ -1,5 +1,6 @@
 -- The list of slacks in words.
-use Rattle.std.specs.Prelude.{◌≡◌, ◌==◌, ◌-◌, ◌+ℤ◌, ℕ, zero, suc, ℤ, pos, List, [], ◌∷◌, ◌++◌, codes, decimal, map, filter, take}
+use Rattle.std.specs.Prelude.{◌≡◌, ◌==◌, ◌-◌, ◌+ℤ◌, ℕ, zero, suc, ℤ, pos, List, [], ◌∷◌, ◌++◌, codes, decimal, map}
+use Rattle.std.specs.Prelude.{filter, take}
 use Rattle.std.specs.Prelude.{length, slice_index_or, int_le, if◌then◌else◌}
 use Rattle.std.specs.List.{range_with_len}
 use Rattle.std.specs.List.Sorted.{IsPermutation, IsSorted}
@@ -64,7 +65,8 @@ greatest_slack places = (slice_index_or places (length places - 1) (pos 0, 0)).0
 abbrev pub rest_text : Unit → ℤ → ℕ → List ℕ
 rest_text unit greatest zero = []
 rest_text unit greatest (suc n) =
-    codes "  " ++ decimal (suc n) ++ codes " more, up to " ++ whole_text unit greatest ++ codes " (--limit all)" ++ 10 ∷ []
+    codes "  " ++ decimal (suc n) ++ codes " more, up to " ++ whole_text unit greatest ++ codes " (--limit all)" ++
+    10 ∷ []
 
 -- how many pairs have no slack
 abbrev pub tight_count : List ℤ → ℕ

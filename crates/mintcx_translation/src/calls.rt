@@ -1,8 +1,10 @@
 //! What a request asks of mintc.
 ghost use Rattle.std.specs.Prelude.{◌≡◌, ◌≢◌, ◌++◌, ◌∷◌, [], ℕ, length, IfOk, IfErr, Ok};
 ghost use Rattle.mintc_command_answers.specs.Commands.{IsNumberInRange, roles_of};
-ghost use Rattle.mintcx_translation.specs.Calls.{IsNoCall, aspect_of, call_for, cells_file, command_for, corners_on, design_files};
-ghost use Rattle.mintcx_translation.specs.Calls.{files_of, form_of, is_corners, is_fitting, job_of, job_on, own_file, plain_gap};
+ghost use Rattle.mintcx_translation.specs.Calls.{IsNoCall, aspect_of, call_for, cells_file, command_for, corners_on};
+ghost use Rattle.mintcx_translation.specs.Calls.{design_files};
+ghost use Rattle.mintcx_translation.specs.Calls.{files_of, form_of, is_corners, is_fitting, job_of, job_on, own_file};
+ghost use Rattle.mintcx_translation.specs.Calls.{plain_gap};
 ghost use Rattle.mintcx_translation.specs.Calls.{source_of};
 
 use mintc_command_answers::{Command, Job, Source};
