@@ -21,10 +21,12 @@ use Rattle.mintc_corners.specs.declared.certificate.CornerCertificate.{CornerCer
 use Rattle.mintc_corners.specs.declared.certificate.CornerCertificate.TheVariants.{Least, Never}
 use Rattle.mintc_command_answers.specs.Answers.{IsAnswerOn, of_contents}
 use Rattle.mintc_command_answers.specs.Contents.{content_roles}
-use Rattle.mintc_command_answers.specs.Corners.{AreGiven, AreTooMany, IsCornersAnswer, IsFirstRefused, of_corner, of_elements, corner_status, corners_of, elements_together, files_with}
+use Rattle.mintc_command_answers.specs.Corners.{AreGiven, AreTooMany, HaveStopped, IsCornerStop, IsCornersAnswer, IsFirstRefused, of_corner, of_elements, corner_status, corners_of, elements_together, files_with}
 use Rattle.mintc_command_answers.specs.Sources.{AreShort, Gives, IsSourceRefused}
 use Rattle.mintc_command_answers.specs.declared.answer.Answer.{Answer}
 use Rattle.mintc_command_answers.specs.declared.command.Command.TheVariants.{Corners}
+use Rattle.mintc_command_answers.specs.declared.corners_answers.CornerStop.{CornerStop}
+use Rattle.mintc_command_answers.specs.declared.corners_answers.CornerStop.TheVariants as stop
 use Rattle.mintc_command_answers.specs.declared.command.Source.TheVariants.{Files}
 use Rattle.mintc_command_answers.specs.declared.status.Status.{Status}
 use Rattle.mintc_command_answers.specs.declared.status.Status.TheVariants.{Refused}
@@ -113,6 +115,12 @@ module _ (most : Most) where
       let rest : length (drop 3 texts) ≡ length texts - 3 = length-drop 3 texts in
       let same = AllZip-long (Gives most Files) (corners_of texts) ts given ∙ length-map (drop 3 texts) (files_with texts) in
       omega (arith, roles, all, rest, same)
+
+  -- what stops the corners of the delays stops those of the texts
+  pub stopped_corners : (texts sliced : List (List ℕ)) (s : CornerStop) → sliced ≡ drop 3 texts → IsCornerStop most (map (files_with texts) sliced) 1 s → HaveStopped most texts s
+  stopped_corners texts sliced (stop.Refused corner own) whole h = subst (λ (x : List (List ℕ)). IsFirstRefused most (map (files_with texts) x) 1 corner own) whole h
+  stopped_corners texts sliced (stop.TooMany refused) whole h = absurd h
+  stopped_corners texts sliced stop.OutOfMemory whole h = tt
 
   -- The answers of `corners`: of a corner that is refused, of too many elements, and of an optimum.
   pub refused_corner : {E : Type 0} (r : Result Answer E) (count : ℕ) (texts : List (List ℕ)) (corner : ℕ) (own : Refusal) → AreShort most texts → IsFirstRefused most (corners_of texts) 1 corner own →

@@ -42,6 +42,7 @@ IsFirstRefused most (files ∷ corners) c corner own =
 -- Why the corners, counted from c on, have no systems: files that are refused, or want of memory.
 abbrev pub IsCornerStop : Most → List (List (List ℕ)) → ℕ → CornerStop → Type 0
 IsCornerStop most corners c (stop.Refused corner own) = IsFirstRefused most corners c corner own
+IsCornerStop most corners c (stop.TooMany refused) = ⊥
 IsCornerStop most corners c stop.OutOfMemory = Unit {0}
 
 -- how many elements the corners have together, each as many as the first
@@ -53,6 +54,14 @@ elements_together (t ∷ ts) = length (t ∷ ts) * element_count t.flat
 abbrev pub AreTooMany : Most → List Timing → Refusal → Type 0
 AreTooMany most ts refused = (most.elements < elements_together ts)
     × (refused ≡ refusal.Limit kind.Elements (elements_together ts))
+
+-- Why the corners of a command's texts are not asked for an optimum: the first that is refused, the elements of all, or
+-- want of memory.
+abbrev pub HaveStopped : Most → List (List ℕ) → CornerStop → Type 0
+HaveStopped most texts (stop.Refused corner own) = IsFirstRefused most (corners_of texts) 1 corner own
+HaveStopped most texts (stop.TooMany refused) =
+    (ts : List Timing) × AreGiven most (corners_of texts) ts × AreTooMany most ts refused
+HaveStopped most texts stop.OutOfMemory = Unit {0}
 
 -- The refusal of a command with these corners: of the first corner that is refused, or of the elements of all.
 pub data IsCornersRefusal (most : Most) (corners : List (List (List ℕ))) (refused : Refusal) : Type 0 where

@@ -1,5 +1,5 @@
 //! The answer of `corners`: the least cycle time of one schedule for several delay files.
-ghost use Rattle.std.specs.Prelude.{◌≡◌, ◌≤◌, ◌<◌, length, map, flat_map, MatchOption, IfOk, IfErr};
+ghost use Rattle.std.specs.Prelude.{◌≡◌, ◌≤◌, ◌<◌, length, map, MatchOption, IfOk, IfErr};
 ghost use Rattle.mintc_text.specs.Stops.{StopsAt};
 ghost use Rattle.mintc_text.specs.declared.limits.TheConstants.{MOST_ELEMENTS};
 ghost use Rattle.mintc_corners.specs.CornerOptimum.{IsOptimumOf};
@@ -7,8 +7,8 @@ ghost use Rattle.mintc_corners.specs.Joint.{AreCorners};
 ghost use Rattle.mintc_command_answers.specs.Answers.{IsAnswerOn, IsOfCommand};
 ghost use Rattle.mintc_command_answers.specs.Commands.{IsNumberInRange};
 ghost use Rattle.mintc_command_answers.specs.Contents.{content_roles};
-ghost use Rattle.mintc_command_answers.specs.Corners.{AreGiven, AreTooMany, IsCornersAnswer, IsCornerStop};
-ghost use Rattle.mintc_command_answers.specs.Corners.{corner_status, elements_together, files_with};
+ghost use Rattle.mintc_command_answers.specs.Corners.{AreGiven, AreTooMany, HaveStopped, IsCornersAnswer, IsCornerStop};
+ghost use Rattle.mintc_command_answers.specs.Corners.{corner_status, corners_of, elements_together, files_with};
 ghost use Rattle.mintc_command_answers.specs.Sources.{AreShort, Gives, IsSourceRefused};
 
 use crate::answer::Answer;
@@ -30,6 +30,8 @@ use std::sync::ledger::{Blank, Ledger};
 pub enum CornerStop {
     /// The files of this corner, counted from 1, are the first that are refused, and so they are.
     Refused { corner: u32, own: Refusal },
+    /// The corners have more elements together than the run takes, and this says so.
+    TooMany(Refusal),
     OutOfMemory,
 }
 
@@ -59,7 +61,7 @@ fn corner_system(
 }
 
 /// The systems of the corners of these delays, in order.
-pub fn corner_systems(
+fn corner_systems(
     alloc: Global,
     limits: &Limits,
     texts: &[Bytes],
@@ -93,7 +95,7 @@ pub fn corner_systems(
 }
 
 /// The limit of elements, where those of all corners pass it.
-pub fn too_many(limits: &Limits, systems: &[System]) -> Option<Refusal>
+fn too_many(limits: &Limits, systems: &[System]) -> Option<Refusal>
     requires some { 1 ≤ length systems.now }
     requires few { length systems.now ≤ 4 }
     ensures { MatchOption result (elements_together systems.now ≤ limits.now.elements)
@@ -110,6 +112,31 @@ pub fn too_many(limits: &Limits, systems: &[System]) -> Option<Refusal>
     }
 }
 
+/// The systems of the corners of texts that aren't too long, which differ in numbers alone, or why there are none.
+pub fn accepted_corners(
+    alloc: Global,
+    limits: &Limits,
+    count: u32,
+    texts: &[Bytes],
+) -> Result<Vec<System>, CornerStop>
+    requires count { length texts.now ≡ length (content_roles (Command.Corners count)) }
+    requires in_range { IsNumberInRange (Command.Corners count) }
+    requires short { AreShort limits.now texts.now }
+    ensures given { IfOk result (λ systems. AreGiven limits.now (corners_of texts.now) systems.items) }
+    ensures within { IfOk result (λ systems. elements_together systems.items ≤ limits.now.elements) }
+    ensures count { IfOk result (λ systems. length systems.items ≡ count) }
+    ensures alike { IfOk result (λ systems. AreCorners systems.items) }
+    ensures stop { IfErr result (HaveStopped limits.now texts.now) }
+{
+    let _most = limits.most();
+    let systems = corner_systems(alloc, limits, texts, &texts[3..])?;
+    if let Some(refusal) = too_many(limits, systems.as_slice()) {
+        return Err(CornerStop::TooMany(refusal));
+    }
+    corners_differ_in_numbers();
+    Ok(systems)
+}
+
 /// The certificate of the optimum of all corners, with the steps of its search counted from a blank.
 pub fn certificate_from<L: Ledger>(
     alloc: Global,
@@ -122,7 +149,7 @@ pub fn certificate_from<L: Ledger>(
     requires some { 2 ≤ length systems.now }
     requires few { length systems.now ≤ 4 }
     requires alike { AreCorners systems.now }
-    requires elements { length (flat_map (λ t. t.flat.elements) systems.now) ≤ MOST_ELEMENTS }
+    requires elements { elements_together systems.now ≤ MOST_ELEMENTS }
     ensures { IfOk result (IsOptimumOf systems.now) }
 {
     let mut steps = Steps::<L>::open(blank);
@@ -168,14 +195,10 @@ pub(crate) fn corners_answer(
     ensures status { IfOk result (λ answer. IsOfCommand answer.status) }
 {
     let _most = limits.most();
-    let systems = match corner_systems(alloc, limits, texts, &texts[3..]) {
-        Ok(systems) => systems,
-        Err(CornerStop::Refused { corner, own }) => return refused_corner(alloc, corner, &own),
-        Err(CornerStop::OutOfMemory) => return Err(OutOfMemory),
-    };
-    if let Some(refusal) = too_many(limits, systems.as_slice()) {
-        return refusal_answer(alloc, &refusal);
+    match accepted_corners(alloc, limits, count, texts) {
+        Ok(systems) => optimum_of(alloc, systems.as_slice()),
+        Err(CornerStop::Refused { corner, own }) => refused_corner(alloc, corner, &own),
+        Err(CornerStop::TooMany(refusal)) => refusal_answer(alloc, &refusal),
+        Err(CornerStop::OutOfMemory) => Err(OutOfMemory),
     }
-    corners_differ_in_numbers();
-    optimum_of(alloc, systems.as_slice())
 }

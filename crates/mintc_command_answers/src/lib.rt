@@ -28,7 +28,7 @@ pub use answer::Answer;
 pub use answering::answer_to;
 pub use check_answers::{room_for, schedule_of};
 pub use command::{Command, Job, Source, command_of};
-pub use corners_answers::{CornerStop, certificate_from, corner_systems, too_many};
+pub use corners_answers::{CornerStop, accepted_corners, certificate_from};
 pub use laws::{
     answers_are_of_commands, joint_optima_are_determined, optima_are_determined,
     optima_are_verified, refusals_are_determined, refusals_exclude_answers,

@@ -10,10 +10,9 @@ appended old begun new first second e f = f ∙ ap (λ v. v ++ second) e ∙ app
 pub claimed : (old a b new kind name says rest : List ℕ) → a ≡ old ++ kind → b ≡ a ++ name → new ≡ b ++ (says ++ rest) → new ≡ old ++ ((kind ++ name ++ says) ++ rest)
 claimed old a b new kind name says rest e f g = rw (g, f, e) (simp append_assoc)
 
--- two lines of two parts each
-pub two_lines : (old a b c d new first said second third : List ℕ) → a ≡ old ++ first → b ≡ a ++ (said ++ 10 ∷ []) → c ≡ b ++ second → d ≡ c ++ third →
-    new ≡ d ++ 10 ∷ [] → new ≡ old ++ text_of ((first ++ said) ∷ (second ++ third) ∷ [])
-two_lines old a b c d new first said second third e f g h i = rw (i, h, g, f, e) (simp append_assoc)
+-- a line of two parts
+pub line_of_two : {a b new : List ℕ} (old first second : List ℕ) → a ≡ old ++ first → b ≡ a ++ second → new ≡ b ++ 10 ∷ [] → new ≡ old ++ ended (first ++ second)
+line_of_two old first second e f g = rw (g, f, e) (simp append_assoc)
 
 -- two lines, the second one of two parts
 pub line_and_two : (old a b c d new first second third : List ℕ) → a ≡ old ++ first → b ≡ a ++ 10 ∷ [] → c ≡ b ++ second → d ≡ c ++ third →

@@ -63,7 +63,7 @@ late_lines t s d unit l (Some n) =
 -- a setup that fails, by the pair whose data comes last
 abbrev pub setup_lines : Timing → Schedule → List ℤ → Unit → ℕ → ℤ → Option ℕ → List (List ℕ)
 setup_lines t s d unit l amount latest =
-    (measured unit s (codes "  setup  " ++ element_in_words t.flat l ++ codes " gets its data ") amount
+    (measured unit s (about (codes "  setup  ") (element_in_words t.flat l) (codes " gets its data ")) amount
     ++ codes " too late") ∷ late_lines t s d unit l latest
 
 -- The cause of a hold that fails. Its data leaves in the cycle in which it is caught by a phase that has not ended, so
@@ -78,7 +78,7 @@ soon_lines t s d unit l (Some n) =
 -- a hold that fails, by the pair whose data comes first
 abbrev pub hold_lines : Timing → Schedule → List ℤ → Unit → ℕ → ℤ → Option ℕ → List (List ℕ)
 hold_lines t s d unit l amount earliest =
-    (measured unit s (codes "  hold   " ++ element_in_words t.flat l ++ codes " gets its next data ") amount
+    (measured unit s (about (codes "  hold   ") (element_in_words t.flat l) (codes " gets its next data ")) amount
     ++ codes " too soon") ∷ soon_lines t s d unit l earliest
 
 -- how long data of a pair has from phase to phase

@@ -16,23 +16,16 @@ use Rattle.mintc_timing.specs.Violations.{check}
 use Rattle.mintcx_amounts.specs.declared.unit.Unit.{Unit}
 use Rattle.mintcx_frame.specs.declared.view.View.{View}
 use Rattle.mintcx_frame.specs.Ends.{head_text, foot_text, unit_for}
-use Rattle.mintcx_judgements.specs.Rules.{cycle_lines, order_lines, span_lines, width_lines, apart_lines}
-use Rattle.mintcx_judgements.specs.Rules.{bound_lines, no_bound}
+use Rattle.mintcx_judgements.specs.Rules.{rule_lines}
 use Rattle.mintcx_judgements.specs.Data.{setup_lines, hold_lines, loop_lines}
 use Rattle.mintcx_judgements.specs.Sources.{latest_into, earliest_into}
 
 -- a violation in words, by the late and the early departures
 abbrev pub broken_lines : Timing → Schedule → List ℤ → List ℤ → Unit → Broken → ℤ → List (List ℕ)
-broken_lines t s late early unit (broken.Cycle p) amount = cycle_lines t.flat s unit p amount
-broken_lines t s late early unit (broken.Order p) amount = order_lines t.flat s unit p amount
-broken_lines t s late early unit (broken.Span p) amount = span_lines t.flat s unit p amount
-broken_lines t s late early unit (broken.Width p) amount = width_lines t.flat s unit p amount
-broken_lines t s late early unit (broken.Apart i j) amount = apart_lines t s unit i j amount
-broken_lines t s late early unit (broken.Bound n) amount =
-    bound_lines t.flat s unit n (slice_index_or t.flat.bounds n no_bound) amount
 broken_lines t s late early unit (broken.Loop ring) amount = loop_lines t s unit ring amount
 broken_lines t s late early unit (broken.Setup l) amount = setup_lines t s late unit l amount (latest_into t s late l)
 broken_lines t s late early unit (broken.Hold l) amount = hold_lines t s early unit l amount (earliest_into t s early l)
+broken_lines t s late early unit rule amount = rule_lines t s unit rule amount
 
 -- the text of a violation
 abbrev pub violation_text : Timing → Schedule → List ℤ → List ℤ → Unit → Violation → List ℕ

@@ -4,6 +4,8 @@ use Rattle.std.specs.Prelude.{ℕ, zero, suc, ℤ, pos, ◌+◌, ◌*ℤ◌, ◌
 use Rattle.std.specs.Prelude.{Option, Some, None, slice_index_or, if◌then◌else◌, int_lt}
 use Rattle.std.specs.List.{fold, range_with_len}
 use Rattle.mintc_timing.specs.declared.clocking.Schedule.{Schedule}
+use Rattle.mintc_timing.specs.declared.violation.Broken.{Broken}
+use Rattle.mintc_timing.specs.declared.violation.Broken.TheVariants as broken
 use Rattle.mintc_timing.specs.declared.parts.Bound.{Bound}
 use Rattle.mintc_timing.specs.declared.parts.Point.{Point}
 use Rattle.mintc_timing.specs.declared.parts.Point.TheVariants.{Origin, Start, End}
@@ -109,3 +111,14 @@ abbrev pub bound_lines : Design → Schedule → Unit → ℕ → Bound → ℤ 
 bound_lines design s unit n bound amount =
     measured unit s (about (codes "  bound  bound ") (decimal (n + 1)) (codes " is missed by ")) amount ∷
     asked_line design s unit bound ∷ []
+
+-- a rule of the clock or a bound in words; nothing of a loop, a setup or a hold
+abbrev pub rule_lines : Timing → Schedule → Unit → Broken → ℤ → List (List ℕ)
+rule_lines t s unit (broken.Cycle p) amount = cycle_lines t.flat s unit p amount
+rule_lines t s unit (broken.Order p) amount = order_lines t.flat s unit p amount
+rule_lines t s unit (broken.Span p) amount = span_lines t.flat s unit p amount
+rule_lines t s unit (broken.Width p) amount = width_lines t.flat s unit p amount
+rule_lines t s unit (broken.Apart i j) amount = apart_lines t s unit i j amount
+rule_lines t s unit (broken.Bound n) amount =
+    bound_lines t.flat s unit n (slice_index_or t.flat.bounds n no_bound) amount
+rule_lines t s unit other amount = []

@@ -5,7 +5,7 @@ ghost use Rattle.mintc_timing.specs.Design.{element_count};
 ghost use Rattle.mintcx_judgements.specs.Data.{arrow_to, edge_text, edge_word, element_in_words, first_name, given};
 ghost use Rattle.mintcx_judgements.specs.Data.{held_line, hold_lines, is_data, lap_line, late_lines, loop_lines};
 ghost use Rattle.mintcx_judgements.specs.Data.{opening_lines, setup_lines, soon_lines, source_line, wanted_line};
-ghost use Rattle.mintcx_judgements.specs.Shown.{IsComing};
+ghost use Rattle.mintcx_judgements.specs.Shown.{IsComing, about, measured};
 
 use crate::shown::{put_about, put_measured, put_timed};
 use crate::sources::{
@@ -16,12 +16,8 @@ use mintc_text::{Lines, OutOfMemory};
 use mintc_timing::shift;
 use mintcx_frame::put_kind_on_phase;
 
-/// Writes an element with its kind and its phase.
-pub(crate) fn put_element(
-    lines: &mut Lines,
-    told: &Told<'_>,
-    element: u32,
-) -> Result<(), OutOfMemory>
+/// Writes an element with its kind and its phase, as `a (latch on phi1)`.
+pub fn put_element(lines: &mut Lines, told: &Told<'_>, element: u32) -> Result<(), OutOfMemory>
     requires { element < element_count told.now.system.now.flat }
     ensures { OnOk result (lines.new ≡ lines.old ++ element_in_words told.now.system.now.flat element) }
 {
@@ -175,6 +171,25 @@ fn put_late(
     )
 }
 
+/// Writes the beginning of the first line of a setup or a hold that fails: its kind, an element, what its data does,
+/// and by how much.
+fn put_untimely(
+    lines: &mut Lines,
+    told: &Told<'_>,
+    kind: &[u8],
+    element: u32,
+    says: &[u8],
+    amount: i64,
+) -> Result<(), OutOfMemory>
+    requires { element < element_count told.now.system.now.flat }
+    ensures { OnOk result (lines.new ≡ lines.old ++ measured told.now.unit told.now.schedule.now
+        (about kind.now (element_in_words told.now.system.now.flat element) says.now) amount) }
+{
+    lines.put(kind)?;
+    put_element(lines, told, element)?;
+    put_measured(lines, told, says, i128::from(amount))
+}
+
 /// Writes a setup that fails, by the pair whose data comes last.
 pub(crate) fn put_setup(
     lines: &mut Lines,
@@ -189,9 +204,14 @@ pub(crate) fn put_setup(
     ensures { OnOk result (lines.new ≡ lines.old ++ text_of
         (setup_lines told.now.system.now told.now.schedule.now late.now told.now.unit element amount latest)) }
 {
-    lines.put(b"  setup  ")?;
-    put_element(lines, told, element)?;
-    put_measured(lines, told, b" gets its data ", i128::from(amount))?;
+    put_untimely(
+        lines,
+        told,
+        b"  setup  ",
+        element,
+        b" gets its data ",
+        amount,
+    )?;
     lines.put(b" too late\n")?;
     put_late(lines, told, late, element, latest)
 }
@@ -239,9 +259,14 @@ pub(crate) fn put_hold(
     ensures { OnOk result (lines.new ≡ lines.old ++ text_of
         (hold_lines told.now.system.now told.now.schedule.now early.now told.now.unit element amount earliest)) }
 {
-    lines.put(b"  hold   ")?;
-    put_element(lines, told, element)?;
-    put_measured(lines, told, b" gets its next data ", i128::from(amount))?;
+    put_untimely(
+        lines,
+        told,
+        b"  hold   ",
+        element,
+        b" gets its next data ",
+        amount,
+    )?;
     lines.put(b" too soon\n")?;
     put_soon(lines, told, early, element, earliest)
 }

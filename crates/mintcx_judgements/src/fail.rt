@@ -9,7 +9,7 @@ ghost use Rattle.mintcx_judgements.specs.Named.{AreNamed, IsNamed};
 use crate::data::{put_hold, put_loop, put_setup};
 use crate::judged::{Causes, Judged, causes_of, cycle_time};
 use crate::ranking::{Place, ranked};
-use crate::rules::{put_apart, put_bound, put_cycle, put_order, put_span, put_width};
+use crate::rules::put_rule;
 use mintc_text::{Bytes, Lines, OutOfMemory};
 use mintc_timing::{Broken, Violation};
 use mintcx_frame::{View, put_foot, put_head, put_number};
@@ -28,12 +28,6 @@ fn put_violation(
     let told = &causes.told;
     let amount = violation.amount;
     match &violation.broken {
-        Broken::Cycle { phase } => put_cycle(lines, told, *phase, amount),
-        Broken::Order { phase } => put_order(lines, told, *phase, amount),
-        Broken::Span { phase } => put_span(lines, told, *phase, amount),
-        Broken::Width { phase } => put_width(lines, told, *phase, amount),
-        Broken::Apart { i, j } => put_apart(lines, told, *i, *j, amount),
-        Broken::Bound { index } => put_bound(lines, told, *index, amount),
         Broken::Loop { pairs } => put_loop(lines, told, pairs.items(), amount),
         Broken::Setup { element } => {
             let latest = causes.latest(*element);
@@ -43,6 +37,7 @@ fn put_violation(
             let earliest = causes.earliest(*element);
             put_hold(lines, told, causes.early, *element, amount, earliest)
         }
+        rule => put_rule(lines, told, rule, amount),
     }
 }
 

@@ -20,7 +20,7 @@ pub(crate) fn fraction(told: &Told<'_>, time: i128) -> Fraction
 }
 
 /// Writes words, and behind them a time without its unit.
-pub(crate) fn put_timed(
+pub fn put_timed(
     lines: &mut Lines,
     told: &Told<'_>,
     words: &[u8],
@@ -34,7 +34,7 @@ pub(crate) fn put_timed(
 }
 
 /// Writes words, and behind them a time with its unit.
-pub(crate) fn put_measured(
+pub fn put_measured(
     lines: &mut Lines,
     told: &Told<'_>,
     words: &[u8],

@@ -144,8 +144,8 @@ pub(crate) fn edge(told: &Told<'_>, element: u32) -> i128
     }
 }
 
-/// How long before it the data has to be there.
-pub(crate) fn setup(told: &Told<'_>, element: u32) -> i128
+/// How long before the edge of its phase the data of an element has to be there.
+pub fn setup(told: &Told<'_>, element: u32) -> i128
     requires { element < element_count told.now.system.now.flat }
     ensures value { result ≡ setup_of told.now.system.now.flat told.now.schedule.now element }
     ensures range { IsModest result }

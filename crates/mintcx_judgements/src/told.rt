@@ -10,7 +10,7 @@ use mintcx_amounts::Unit;
 
 /// A system, a schedule in range that has its phases, and the unit of the times that are told.
 #[derive(Clone, Copy)]
-pub(crate) struct Told<'a> {
+pub struct Told<'a> {
     pub system: &'a System,
     pub schedule: &'a Schedule,
     pub unit: Unit,

@@ -1,30 +1,21 @@
-use Rattle.std.proofs.Common.{◌≡◌, ◌++◌, ap, ◌∙◌, arith}
+use Rattle.std.proofs.Common.{◌≡◌, ◌++◌, ap, ◌∙◌, arith, w64, to_z, of_z}
 use Rattle.std.specs.Prelude.{codes}
 use Rattle.std.proofs.lemmas.Int.{ints}
 use Rattle.std.proofs.lemmas.Result.{on_ok_weaker}
-use Rattle.mintc_fraction.specs.Ratio.{over}
-use Rattle.mintcx_frame.specs.Ends.{time_text}
 use Rattle.mintcx_judgements.specs.Data.{element_in_words, late_lines}
-use Rattle.mintcx_judgements.specs.Shown.{measured}
-use Rattle.mintcx_judgements.proofs.WideLaws.{wide}
-use Rattle.mintcx_judgements.proofs.WrittenLaws.{claimed, line_and_rest}
+use Rattle.mintcx_judgements.specs.Shown.{about, measured}
+use Rattle.mintcx_judgements.proofs.WrittenLaws.{line_and_rest}
 use Rattle.mintcx_judgements.proofs.data.put_setup.Goals as goal
 
 pub returns : goal.returns
 returns c =
-    let unit = c.args.told.now.unit in
-    let s = c.args.told.now.schedule.now in
-    let t = c.args.told.now.system.now in
-    let l = c.args.element in
-    let by = c.args.amount in
-    let amount : wide c.from.result ≡ by = omega (arith, ints, c.from.ensures, c.ranges.amount.sfits) in
-    let element = element_in_words t.flat l in
-    let begun : c.put_measured.new.lines ≡ c.args.lines.now ++ measured unit s (codes "  setup  " ++ element ++ codes " gets its data ") by =
-    claimed c.args.lines.now c.put.new.self c.put_element.new.lines c.put_measured.new.lines (codes "  setup  ") element (codes " gets its data ")
-    (time_text unit (over by s.den)) c.in_ok-put.ensures.ok c.in_ok-put_element.ensures
-    (c.in_ok-put_measured.ensures ∙ ap (λ x. c.put_element.new.lines ++ measured unit s (codes " gets its data ") x) amount) in
+    let told = c.args.told.now in
+    let says = about (codes "  setup  ") (element_in_words told.system.now.flat c.args.element) (codes " gets its data ") in
+    let amount : to_z w64 (of_z w64 c.args.amount) ≡ c.args.amount = omega (arith, ints, c.ranges.amount.sfits) in
     on_ok_weaker c.put_late.result
-    (λ e. line_and_rest c.args.lines.now c.put_measured.new.lines c.put-2.new.self c.put_late.new.lines
-    (measured unit s (codes "  setup  " ++ element ++ codes " gets its data ") by) (codes " too late") (late_lines t s c.args.late.now unit l c.args.latest)
-    begun c.in_ok-put-2.ensures.ok e)
+    (λ e. line_and_rest c.args.lines.now c.put_untimely.new.lines c.put.new.self c.put_late.new.lines
+    (measured told.unit told.schedule.now says c.args.amount) (codes " too late")
+    (late_lines told.system.now told.schedule.now c.args.late.now told.unit c.args.element c.args.latest)
+    (c.in_ok-put_untimely.ensures ∙ ap (λ x. c.args.lines.now ++ measured told.unit told.schedule.now says x) amount)
+    c.in_ok-put.ensures.ok e)
     c.put_late.ensures
