@@ -1,6 +1,6 @@
+mod ChainLaws
 mod FoundLaws
 mod HoldLaws
-mod NeverLaws
 mod OptimumLaws
 mod RingLaws
 mod WrittenLaws

@@ -7,9 +7,6 @@ use Rattle.mintc_certificate.specs.declared.certificate.Certificate.TheVariants.
 use Rattle.mintc_certificate.specs.declared.members.Member.{Member}
 use Rattle.mintc_certificate.specs.Ranges.{IsLeastInRange}
 use Rattle.mintc_certificate.specs.Valid.{IsMember, IsValid, counts, ring}
-use Rattle.mintc_safe.specs.declared.certificate.SafeCertificate.TheVariants as safe
-use Rattle.mintc_safe.specs.declared.members.SafeMember.{SafeMember}
-use Rattle.mintc_safe.specs.SafeOptimum.{IsSafeLeastInRange, IsSafeMember, IsSafeValid}
 use Rattle.mintcx_chain.specs.Rows.{IsClocked}
 
 pub clocked : (t : Timing) (s : Schedule) (d : List ℤ) (chain : List Member) → IsValid t (Least s d chain) → IsLeastInRange s d chain → IsClocked t.flat s d
@@ -25,18 +22,3 @@ members_of_least t s d chain valid = (valid ring).0
 
 pub members_of_never : (t : Timing) (chain : List Member) → IsValid t (Never chain) → All (IsMember t) chain
 members_of_never t chain valid = (valid ring).0
-
--- the same of a safe one
-pub safe_clocked : (t : Timing) (s : Schedule) (d : List ℤ) (chain : List SafeMember) → IsSafeValid t (safe.Least s d chain) → IsSafeLeastInRange s d chain → IsClocked t.flat s d
-safe_clocked t s d chain valid range = record {
-  in_range = range.schedule_in;
-  phases = valid.0.right.clock.starts;
-  departures = range.each;
-  elements = valid.0.right.exact.count;
-}
-
-pub safe_members_of_least : (t : Timing) (s : Schedule) (d : List ℤ) (chain : List SafeMember) → IsSafeValid t (safe.Least s d chain) → All (IsSafeMember t) chain
-safe_members_of_least t s d chain valid = valid.1.0.each
-
-pub safe_members_of_never : (t : Timing) (chain : List SafeMember) → IsSafeValid t (safe.Never chain) → All (IsSafeMember t) chain
-safe_members_of_never t chain valid = valid.0.each

@@ -1,29 +1,41 @@
--- What is written in parts.
-use Rattle.std.proofs.Common.{◌≡◌, ◌==◌, false, List, [], ◌∷◌, ℕ, ◌++◌, length, append_assoc}
+-- What is written in parts: each part stands behind what is written before it.
+use Rattle.std.proofs.Common.{◌≡◌, ◌≢◌, ◌==◌, false, if◌then◌else◌, refl, List, [], ◌∷◌, ℕ, ◌++◌, length, append_assoc}
 use Rattle.std.specs.Prelude.{codes}
+use Rattle.std.proofs.lemmas.Bool.{ne_eqb}
 use Rattle.mintcx_chain.specs.Through.{gates_text}
 use Rattle.mintcx_optima.specs.Because.{data_text}
 
--- two parts, and a line's end that is written with what stands before it
-pub told : (old a b new p q r s : List ℕ) → a ≡ old ++ p → b ≡ a ++ q → new ≡ b ++ (r ++ s) → new ≡ old ++ (p ++ q ++ r ++ s)
-told old a b new p q r s e f g = rw (g, f, e) (simp append_assoc)
+-- two parts
+pub in_two : (old a new p q : List ℕ) → a ≡ old ++ p → new ≡ a ++ q → new ≡ old ++ (p ++ q)
+in_two old a new p q e f = rw (f, e) (append_assoc old p q)
 
--- the same of four parts
-pub asked : (old a b d e new p q r s t u : List ℕ) → a ≡ old ++ p → b ≡ a ++ q → d ≡ b ++ r → e ≡ d ++ s → new ≡ e ++ (t ++ u) →
+-- a part, and two that are written at once, as a line's last words and its end
+pub with_end : (old a new p q r : List ℕ) → a ≡ old ++ p → new ≡ a ++ (q ++ r) → new ≡ old ++ (p ++ q ++ r)
+with_end old a new p q r e f = rw (f, e) (simp append_assoc)
+
+-- three parts
+pub in_three : (old a b new p q r : List ℕ) → a ≡ old ++ p → b ≡ a ++ q → new ≡ b ++ r → new ≡ old ++ (p ++ q ++ r)
+in_three old a b new p q r e f g = in_two old b new (p ++ q) r (in_two old a b p q e f) g
+
+-- four parts
+pub in_four : (old a b c new p q r s : List ℕ) → a ≡ old ++ p → b ≡ a ++ q → c ≡ b ++ r → new ≡ c ++ s → new ≡ old ++ (p ++ q ++ r ++ s)
+in_four old a b c new p q r s e f g h = in_two old c new (p ++ q ++ r) s (in_three old a b c p q r e f g) h
+
+-- five parts
+pub in_five : (old a b c d new p q r s t : List ℕ) → a ≡ old ++ p → b ≡ a ++ q → c ≡ b ++ r → d ≡ c ++ s → new ≡ d ++ t → new ≡ old ++ (p ++ q ++ r ++ s ++ t)
+in_five old a b c d new p q r s t e f g h i = in_two old d new (p ++ q ++ r ++ s) t (in_four old a b c d p q r s e f g h) i
+
+-- six parts
+pub in_six : (old a b c d e new p q r s t u : List ℕ) → a ≡ old ++ p → b ≡ a ++ q → c ≡ b ++ r → d ≡ c ++ s → e ≡ d ++ t → new ≡ e ++ u →
     new ≡ old ++ (p ++ q ++ r ++ s ++ t ++ u)
-asked old a b d e new p q r s t u h i j k l = rw (l, k, j, i, h) (simp append_assoc)
+in_six old a b c d e new p q r s t u f g h i j k = in_two old e new (p ++ q ++ r ++ s ++ t) u (in_five old a b c d e p q r s t f g h i j) k
 
--- and of six
-pub decided : (old a b d e f g new p q r s t u v w : List ℕ) → a ≡ old ++ p → b ≡ a ++ q → d ≡ b ++ r → e ≡ d ++ s → f ≡ e ++ t → g ≡ f ++ u →
-    new ≡ g ++ (v ++ w) → new ≡ old ++ (p ++ q ++ r ++ s ++ t ++ u ++ v ++ w)
-decided old a b d e f g new p q r s t u v w h i j k l m n = rw (n, m, l, k, j, i, h) (simp append_assoc)
-
--- and of five, each written whole
-pub in_five : (old a b d e new p q r s t : List ℕ) → a ≡ old ++ p → b ≡ a ++ q → d ≡ b ++ r → e ≡ d ++ s → new ≡ e ++ t → new ≡ old ++ (p ++ q ++ r ++ s ++ t)
-in_five old a b d e new p q r s t h i j k l = rw (l, k, j, i, h) (simp append_assoc)
+-- the text where a number isn't 0
+pub otherwise : (n : ℕ) (x y : List ℕ) → n ≢ 0 → (if n == 0 then x else y) ≡ y
+otherwise n x y some = rw (ne_eqb n 0 some) refl
 
 -- data through some gates
 pub through : (old a b new : List ℕ) (gates : List (List ℕ)) → (length gates == 0) ≡ false → a ≡ old ++ codes "data" → b ≡ a ++ codes " through " →
     new ≡ b ++ gates_text gates → new ≡ old ++ data_text gates
 through old a b new [] some e f g = cc
-through old a b new (gate ∷ gates) some e f g = rw (g, f, e) (simp append_assoc)
+through old a b new (gate ∷ gates) some e f g = in_three old a b new (codes "data") (codes " through ") (gates_text (gate ∷ gates)) e f g

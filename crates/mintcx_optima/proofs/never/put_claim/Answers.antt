@@ -1,0 +1,13 @@
+use Rattle.std.specs.Prelude.{codes}
+use Rattle.std.proofs.lemmas.Result.{on_ok_weaker}
+use Rattle.mintcx_frame.specs.Ends.{subject_text}
+use Rattle.mintcx_optima.proofs.WrittenLaws.{in_four}
+use Rattle.mintcx_optima.proofs.never.put_claim.Goals as goal
+
+pub returns : goal.returns
+returns c =
+    on_ok_weaker c.put_subject.result
+    (λ e. in_four c.args.lines.now c.put.new.self c.put-2.new.self c.put-3.new.self c.put_subject.new.lines
+    (codes "never  ") c.args.claim.now (codes ", whatever its cycle time") (subject_text c.args.view.now.subject)
+    c.in_ok-put.ensures.ok c.in_ok-put-2.ensures.ok c.in_ok-put-3.ensures.ok e)
+    c.put_subject.ensures
