@@ -1,0 +1,5 @@
+mod ClockLaws
+mod ExactLaws
+mod ShownLaws
+mod WrittenLaws
+mod TurnLaws

@@ -1,0 +1,7 @@
+mod BeginLaws
+mod ChainLaws
+mod FlagLaws
+mod HopLaws
+mod PlaceLaws
+mod TimeLaws
+mod WrittenLaws
