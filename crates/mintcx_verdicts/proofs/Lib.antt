@@ -1,0 +1,10 @@
+mod ArrivalLaws
+mod ChainLaws
+mod FailingLaws
+mod FirstLaws
+mod LastLaws
+mod ReasonLaws
+mod SetupLaws
+mod SumsLaws
+mod WideLaws
+mod WrittenLaws
