@@ -1,11 +1,11 @@
 -- The test of a number, and what a certificate that fails it passes.
-use Rattle.std.proofs.Common.{◌≡◌, ◌≢◌, ℕ, ℤ, ◌<◌, List, All, length, arith, refl, ap, ◌∙◌, sym, subst}
+use Rattle.std.proofs.Common.{◌≡◌, ◌≢◌, ℕ, ℤ, List, All, length, arith, refl, ap, ◌∙◌, sym, subst}
 use Rattle.mintc_timing.specs.declared.clocking.Schedule.{Schedule}
 use Rattle.mintc_timing.specs.Design.{Timing, phase_count}
 use Rattle.mintc_certificate.specs.declared.certificate.Certificate.{Certificate}
 use Rattle.mintc_certificate.specs.declared.certificate.Certificate.TheVariants.{Least, Never}
 use Rattle.mintc_certificate.specs.declared.members.Member.{Member}
-use Rattle.mintc_certificate.specs.Valid.{Test, number_of, Passes, IsNamed, IsRing, counts, clock, bounds, departures, setups, ring, sums}
+use Rattle.mintc_certificate.specs.Valid.{Test, number_of, IsNamed, counts, clock, bounds, departures, setups, ring, sums}
 use Rattle.mintc_checker.specs.declared.verdict.Verdict.TheVariants.{Invalid}
 use Rattle.mintc_checker.specs.Verdicts.{FailsFirst, IsVerdict}
 use Rattle.mintcx_verdicts.specs.Verdicts.{test_of}

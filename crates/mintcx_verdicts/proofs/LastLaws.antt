@@ -1,5 +1,5 @@
 -- The last arrival at each element, one pair after another.
-use Rattle.std.proofs.Common.{◌≡◌, ℕ, ◌<◌, ◌+◌, ◌==◌, ℤ, Bool, true, false, List, length, get_or, get_or-set_other, get_or-set_same, length-set, Option, Some, None, take, arith, refl, ap, ◌∙◌, sym, ⊎_elim, inl, inr}
+use Rattle.std.proofs.Common.{◌≡◌, ℕ, ◌<◌, ◌+◌, ◌==◌, ℤ, true, false, List, length, get_or, get_or-set_other, get_or-set_same, length-set, Option, Some, None, arith, ap, ◌∙◌, sym, ⊎_elim, inl, inr}
 use Rattle.std.specs.Prelude.{slice_set, map, filter}
 use Rattle.std.proofs.lemmas.Bool.{cases_eq}
 use Rattle.std.proofs.lemmas.Bool.Decides.{nat_tests}
@@ -15,7 +15,7 @@ use Rattle.mintcx_verdicts.specs.Arrivals.{AreLastArrivals}
 is_same : (m n : ℕ) → m ≡ n → (m == n) ≡ true
 is_same m n e = grind (arith, nat_tests)
 
-is_other : (m n : ℕ) → (m ≡ n → ⊥) → (m == n) ≡ false
+pub is_other : (m n : ℕ) → (m ≡ n → ⊥) → (m == n) ≡ false
 is_other m n e = grind (arith, nat_tests)
 
 module _ (t : Timing) (s : Schedule) (d : List ℤ) where

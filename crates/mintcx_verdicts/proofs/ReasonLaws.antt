@@ -1,6 +1,5 @@
 -- Why a certificate fails a test, by the test's number.
 use Rattle.std.proofs.Common.{◌≡◌, ◌≢◌, ℕ, ◌==◌, ℤ, Bool, true, false, List, arith, refl, ap, ◌∙◌, sym, subst, if◌then◌else◌}
-use Rattle.std.proofs.lemmas.Bool.Decides.{nat_tests}
 use Rattle.mintc_fraction.specs.Ratio.{over}
 use Rattle.mintc_text.specs.Lines.{ended}
 use Rattle.mintc_timing.specs.declared.clocking.Schedule.{Schedule}
@@ -16,6 +15,7 @@ use Rattle.mintcx_verdicts.specs.Chains.{IsChainReason, stuck_line, sums_over, t
 use Rattle.mintcx_verdicts.specs.Counts.{counts_text}
 use Rattle.mintcx_verdicts.specs.Rules.{rules_text}
 use Rattle.mintcx_verdicts.specs.Verdicts.{IsReason, test_of}
+use Rattle.mintcx_verdicts.proofs.LastLaws.{is_other}
 
 -- a reason for the test of a number
 pub reason_at : (t : Timing) (certificate : Certificate) (unit : Unit) (vs : List Violation) (text : List ℕ) (n : ℕ) (test : Test) →
@@ -52,9 +52,6 @@ module _ (t : Timing) (s : Schedule) (d : List ℤ) (chain : List Member) (unit 
 abbrev by_flags : Bool → Bool → Bool → Bool → Bool → Bool → Test
 by_flags a b c d e f =
     if a then counts else if b then clock else if c then bounds else if d then departures else if e then setups else if f then ring else sums
-
-is_other : (m n : ℕ) → (m ≡ n → ⊥) → (m == n) ≡ false
-is_other m n e = grind (arith, nat_tests)
 
 -- a number above 6 is that of the sums
 pub is_sums : (n : ℕ) → (n ≡ 1 → ⊥) → (n ≡ 2 → ⊥) → (n ≡ 3 → ⊥) → (n ≡ 4 → ⊥) → (n ≡ 5 → ⊥) → (n ≡ 6 → ⊥) → test_of n ≡ sums

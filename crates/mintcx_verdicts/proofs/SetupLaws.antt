@@ -1,5 +1,5 @@
 -- The amount of a latch's setup.
-use Rattle.std.proofs.Common.{◌≡◌, ℕ, ℤ, pos, ◌+ℤ◌, ◌-ℤ◌, ◌*ℤ◌, Bool, false, List, Option, Some, ap, sym, if◌then◌else◌}
+use Rattle.std.proofs.Common.{◌≡◌, ℕ, ℤ, pos, ◌+ℤ◌, ◌-ℤ◌, ◌*ℤ◌, Bool, false, List, Some, ap, sym, if◌then◌else◌}
 use Rattle.std.specs.Int.{int_max}
 use Rattle.std.specs.Prelude.{option_map}
 use Rattle.mintc_timing.specs.declared.clocking.Schedule.{Schedule}

@@ -1,4 +1,4 @@
-use Rattle.std.proofs.Common.{◌≡◌, ◌<◌, ℤ, List, None, length, w64, to_z, of_z, ap, ◌∙◌, get_or, arith, rules, subst, SFits}
+use Rattle.std.proofs.Common.{◌≡◌, ◌<◌, List, None, length, w64, to_z, of_z, ap, ◌∙◌, get_or, arith, rules, subst, SFits}
 use Rattle.std.proofs.lemmas.Int.{to_z-of_z}
 use Rattle.std.proofs.lemmas.List.{get_or_read}
 use Rattle.mintc_timing.specs.declared.parts.Pair.{Pair}

@@ -1,7 +1,7 @@
 use Rattle.std.proofs.Common.{◌+ℤ◌, ◌*ℤ◌, ap, ◌∙◌}
 use Rattle.mintc_timing.specs.declared.parts.Element.{Element}
 use Rattle.mintc_timing.specs.declared.parts.Pair.{Pair}
-use Rattle.mintc_timing.specs.Design.{element_at, pair_at}
+use Rattle.mintc_timing.specs.Design.{element_at}
 use Rattle.mintc_timing.proofs.SharedFitting.{IsTime-IsDenominator, IsTime-IsModest, read_time}
 use Rattle.mintcx_verdicts.proofs.ArrivalLaws.{read, travels_for}
 use Rattle.mintcx_verdicts.proofs.arrivals.travel.Goals as goal

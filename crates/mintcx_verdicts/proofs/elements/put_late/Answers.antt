@@ -1,8 +1,8 @@
-use Rattle.std.proofs.Common.{◌≡◌, ◌++◌, IfSome, Option, ℤ, ap, ◌∙◌, subst, sym}
+use Rattle.std.proofs.Common.{◌++◌, IfSome, Option, ℤ, ap, ◌∙◌, subst, sym}
 use Rattle.std.proofs.lemmas.Result.{on_ok_weaker}
 use Rattle.mintc_text.specs.Lines.{ended}
 use Rattle.mintcx_verdicts.specs.Arrivals.{IsLate, tardy_line, tardy_text}
-use Rattle.mintcx_verdicts.proofs.WideLaws.{read_late, wide}
+use Rattle.mintcx_verdicts.proofs.WideLaws.{read_late}
 use Rattle.mintcx_verdicts.proofs.elements.put_late.Goals as goal
 
 pub returns-in-Some : goal.returns-in-Some

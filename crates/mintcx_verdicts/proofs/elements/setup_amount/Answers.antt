@@ -4,7 +4,6 @@ use Rattle.std.proofs.lemmas.Int.{ints, clamps}
 use Rattle.mintc_timing.specs.declared.parts.Element.{Element}
 use Rattle.mintc_timing.specs.Clocking.{width_of}
 use Rattle.mintc_timing.specs.Departures.{departure}
-use Rattle.mintc_timing.specs.Design.{phase_of}
 use Rattle.mintc_timing.specs.Limits.{IsNumerator}
 use Rattle.mintcx_judgements.specs.Sources.{setup_of}
 use Rattle.mintcx_verdicts.proofs.SetupLaws.{latch_amount}

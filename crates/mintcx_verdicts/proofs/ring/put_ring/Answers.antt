@@ -1,4 +1,4 @@
-use Rattle.std.proofs.Common.{◌≡◌, ℕ, ◌<◌, ◌++◌, length, All, refl, ap, ◌∙◌, subst, inr}
+use Rattle.std.proofs.Common.{ℕ, ◌<◌, ◌++◌, length, All, refl, ap, ◌∙◌, subst, inr}
 use Rattle.std.proofs.lemmas.Result.{on_ok_weaker}
 use Rattle.mintc_text.specs.Lines.{ended}
 use Rattle.mintc_timing.specs.Design.{Design}

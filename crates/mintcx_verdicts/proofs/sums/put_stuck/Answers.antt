@@ -2,7 +2,7 @@ use Rattle.std.proofs.Common.{◌≡◌, ◌==◌, false, ◌++◌, ap, ◌∙�
 use Rattle.std.specs.Prelude.{codes}
 use Rattle.std.proofs.lemmas.Result.{on_ok_weaker}
 use Rattle.mintc_text.specs.Lines.{ended}
-use Rattle.mintcx_verdicts.specs.Chains.{asks, laps_of, stuck_line, takes}
+use Rattle.mintcx_verdicts.specs.Chains.{asks, laps_of, takes}
 use Rattle.mintcx_verdicts.proofs.SumsLaws.{has_laps, stuck_with}
 use Rattle.mintcx_verdicts.proofs.WrittenLaws.{stuck_written}
 use Rattle.mintcx_verdicts.proofs.sums.put_stuck.Goals as goal

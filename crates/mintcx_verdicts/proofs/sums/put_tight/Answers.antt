@@ -3,7 +3,7 @@ use Rattle.std.specs.Prelude.{codes}
 use Rattle.std.proofs.lemmas.Result.{on_ok_weaker}
 use Rattle.mintc_text.specs.Lines.{ended}
 use Rattle.mintcx_amounts.specs.Amounts.{amount_text}
-use Rattle.mintcx_verdicts.specs.Chains.{asks, laps_of, takes, tight_line}
+use Rattle.mintcx_verdicts.specs.Chains.{asks, laps_of, takes}
 use Rattle.mintcx_verdicts.proofs.SumsLaws.{has_laps, tight_with}
 use Rattle.mintcx_verdicts.proofs.WrittenLaws.{tight_written}
 use Rattle.mintcx_verdicts.proofs.sums.put_tight.Goals as goal

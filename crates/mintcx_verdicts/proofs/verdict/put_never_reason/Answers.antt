@@ -1,8 +1,7 @@
-use Rattle.std.proofs.Common.{◌≡◌, ◌++◌, pos, List, ap, ◌∙◌}
+use Rattle.std.proofs.Common.{◌≡◌, ◌++◌, pos, ap, ◌∙◌}
 use Rattle.std.proofs.lemmas.Result.{on_ok_weaker}
 use Rattle.mintc_fraction.specs.Ratio.{over}
 use Rattle.mintc_text.specs.Lines.{ended}
-use Rattle.mintc_timing.specs.declared.violation.Violation.{Violation}
 use Rattle.mintc_certificate.specs.declared.certificate.Certificate.TheVariants.{Never}
 use Rattle.mintc_certificate.specs.declared.sums.ChainSums.{ChainSums}
 use Rattle.mintc_certificate.specs.Valid.{ring}
