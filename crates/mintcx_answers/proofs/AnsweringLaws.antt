@@ -1,5 +1,5 @@
 -- Answers for people on the texts of a command, and why there is none.
-use Rattle.std.proofs.Common.{◌≡◌, ℕ, List, true, sym, subst, Result, Ok, Err, IfOk, IfErr}
+use Rattle.std.proofs.Common.{◌≡◌, ℕ, List, refl, sym, subst, Option, Some, None, Result, Ok, Err, IfOk, IfErr}
 use Rattle.mintc_text.specs.Stops.{StopsAt}
 use Rattle.mintc_text.specs.declared.limits.Most.{Most}
 use Rattle.mintc_text.specs.declared.refusals.Refusal.{Refusal}
@@ -14,9 +14,14 @@ use Rattle.mintc_safe.specs.declared.certificate.SafeCertificate.{SafeCertificat
 use Rattle.mintc_safe.specs.declared.certificate.SafeCertificate.TheVariants as kept
 use Rattle.mintc_slack.specs.declared.finding.Slacks.{Slacks}
 use Rattle.mintc_slack.specs.declared.finding.Slacks.TheVariants as slacks
-use Rattle.mintc_command_answers.specs.Answers.{IsFirstRefusal, IsJobRefusal, IsOfCommand, of_contents, too_long}
-use Rattle.mintc_command_answers.specs.Commands.{IsNumberInRange, roles_of}
-use Rattle.mintc_command_answers.specs.Jobs.{certificate_status, safe_status, slack_status}
+use Rattle.mintc_checker.specs.declared.verdict.Verdict.{Verdict}
+use Rattle.mintc_checker.specs.declared.verdict.Verdict.TheVariants.{Valid, Invalid}
+use Rattle.mintc_corners.specs.declared.certificate.CornerCertificate.{CornerCertificate}
+use Rattle.mintc_corners.specs.declared.certificate.CornerCertificate.TheVariants as joint
+use Rattle.mintc_command_answers.specs.Answers.{IsContentRefusal, IsFirstRefusal, IsOfCommand, of_contents, too_long}
+use Rattle.mintc_command_answers.specs.Commands.{roles_of}
+use Rattle.mintc_command_answers.specs.Corners.{corner_status}
+use Rattle.mintc_command_answers.specs.Jobs.{certificate_status, safe_status, slack_status, verdict_status}
 use Rattle.mintc_command_answers.specs.Sources.{AreShort, Gives, IsLengthRefusal, own_file}
 use Rattle.mintc_command_answers.specs.declared.answer.Answer.{Answer}
 use Rattle.mintc_command_answers.specs.declared.command.Command.{Command}
@@ -31,47 +36,42 @@ use Rattle.mintcx_cycles.specs.declared.cycles.AtCycle.{AtCycle}
 use Rattle.mintcx_cycles.specs.declared.cycles.AtCycle.TheVariants as at
 use Rattle.mintcx_translation.specs.declared.calls.Aspect.{Aspect}
 use Rattle.mintcx_translation.specs.declared.calls.Aspect.TheVariants as aspect
-use Rattle.mintcx_answers.specs.Answers.{HasAnswer, IsContentAnswer, IsJobAnswer, IsJudgement, IsOptimiseAnswer, cycle_status, has_text}
-
--- a command that has a text
-pub in_range : (command : Command) → has_text command ≡ true → IsNumberInRange command
-in_range (OfDesign job source) worded = tt
-in_range (Sample number) worded = absurd (cc worded)
-in_range (Corners count) worded = absurd (cc worded)
+use Rattle.mintcx_answers.specs.Answers.{HasAnswer, IsContentAnswer, IsJobAnswer, IsJudgement, IsOnFiles, IsOptimiseAnswer, IsVerifyAnswer, certified_status, cycle_status, name_beside}
 
 -- In a run with these limits.
 module _ (most : Most) where
   -- what is answered on the texts of a design and on the text beside them
-  pub answer_on_file : {E : Type 0} (r : Result Answer E) (job : Job) (told : Aspect) (source : Source) (texts : List (List ℕ)) (t : Timing) (file : List ℕ) (view : View) → Gives most source texts t →
-      file ≡ own_file source texts → IfOk r (λ (a : Answer). IsJobAnswer most job told t file view a.status a.text) →
-      IfOk r (λ (a : Answer). IsContentAnswer most (OfDesign job source) told texts view a.status a.text)
-  answer_on_file (Err e) job told source texts t file view gives same h = tt
-  answer_on_file (Ok a) job told source texts t file view gives same h = (t, gives, subst (λ f. IsJobAnswer most job told t f view a.status a.text) same h)
+  pub answer_on_file : {E : Type 0} (r : Result Answer E) (job : Job) (told : Aspect) (beside : List (List ℕ)) (source : Source) (texts : List (List ℕ)) (t : Timing) (file : List ℕ) (view : View) →
+      Gives most source texts t → file ≡ own_file source texts → IfOk r (λ (a : Answer). IsJobAnswer most job told beside t file view a.status a.text) →
+      IfOk r (λ (a : Answer). IsContentAnswer most (OfDesign job source) told beside texts view a.status a.text)
+  answer_on_file (Err e) job told beside source texts t file view gives same h = tt
+  answer_on_file (Ok a) job told beside source texts t file view gives same h = (t, gives, subst (λ f. IsJobAnswer most job told beside t f view a.status a.text) same h)
 
   -- so it is for a command that is of a design
-  pub answered : {E : Type 0} (r : Result Answer E) (command : Command) (job : Job) (told : Aspect) (source : Source) (texts : List (List ℕ)) (view : View) → command ≡ OfDesign job source → AreShort most texts →
-      IfOk r (λ (a : Answer). IsContentAnswer most (OfDesign job source) told texts view a.status a.text) → IfOk r (λ (a : Answer). HasAnswer most command told texts view a.status a.text)
-  answered (Err e) command job told source texts view is short h = tt
-  answered (Ok a) command job told source texts view is short h =
-      let own : HasAnswer most (OfDesign job source) told texts view a.status a.text = (short, h) in
-      subst (λ (x : Command). HasAnswer most x told texts view a.status a.text) (sym is) own
+  pub answered : {E : Type 0} (r : Result Answer E) (command own : Command) (told : Aspect) (beside texts : List (List ℕ)) (view : View) → command ≡ own → AreShort most texts →
+      IfOk r (λ (a : Answer). IsContentAnswer most own told beside texts view a.status a.text) → IfOk r (λ (a : Answer). HasAnswer most command told beside texts view a.status a.text)
+  answered (Err e) command own told beside texts view is short h = tt
+  answered (Ok a) command own told beside texts view is short h =
+      let same : HasAnswer most own told beside texts view a.status a.text = (short, h) in
+      subst (λ (x : Command). HasAnswer most x told beside texts view a.status a.text) (sym is) same
 
   -- and so is what stops it
-  stopped_at : (job : Job) (source : Source) (texts : List (List ℕ)) (s : Stop) → AreShort most texts → StopsAt (IsJobRefusal most job source texts) s →
-      StopsAt (IsFirstRefusal most (OfDesign job source) texts) s
-  stopped_at job source texts (stop.Refused refused) short h = of_contents short h
-  stopped_at job source texts stop.OutOfMemory short h = tt
+  stopped_at : (command : Command) (texts : List (List ℕ)) (s : Stop) → IsOnFiles command → AreShort most texts → StopsAt (IsContentRefusal most command texts) s → StopsAt (IsFirstRefusal most command texts) s
+  stopped_at (OfDesign job source) texts (stop.Refused refused) on short h = of_contents short h
+  stopped_at (Sample number) texts (stop.Refused refused) on short h = absurd (on number refl)
+  stopped_at (Corners count) texts (stop.Refused refused) on short h = of_contents short h
+  stopped_at command texts stop.OutOfMemory on short h = tt
 
-  pub stopped : {A : Type 0} (r : Result A Stop) (command : Command) (job : Job) (source : Source) (texts : List (List ℕ)) → command ≡ OfDesign job source → AreShort most texts →
-      IfErr r (StopsAt (IsJobRefusal most job source texts)) → IfErr r (StopsAt (IsFirstRefusal most command texts))
-  stopped (Ok a) command job source texts is short h = tt
-  stopped (Err s) command job source texts is short h = subst (λ (x : Command). StopsAt (IsFirstRefusal most x texts) s) (sym is) (stopped_at job source texts s short h)
+  pub stopped : {A : Type 0} (r : Result A Stop) (command own : Command) (texts : List (List ℕ)) → command ≡ own → IsOnFiles command → AreShort most texts →
+      IfErr r (StopsAt (IsContentRefusal most own texts)) → IfErr r (StopsAt (IsFirstRefusal most command texts))
+  stopped (Ok a) command own texts is on short h = tt
+  stopped (Err s) command own texts is on short h = stopped_at command texts s on short (subst (λ (x : Command). StopsAt (IsContentRefusal most x texts) s) (sym is) h)
 
-  pub refused_length : (command : Command) (texts : List (List ℕ)) (roles : List Role) (refused : Refusal) → has_text command ≡ true → roles ≡ roles_of command →
+  pub refused_length : (command : Command) (texts : List (List ℕ)) (roles : List Role) (refused : Refusal) → IsOnFiles command → roles ≡ roles_of command →
       IsLengthRefusal most roles texts refused → IsFirstRefusal most command texts refused
-  refused_length (OfDesign job source) texts roles refused worded same h = too_long (subst (λ (x : List Role). IsLengthRefusal most x texts refused) same h)
-  refused_length (Sample number) texts roles refused worded same h = absurd (cc worded)
-  refused_length (Corners count) texts roles refused worded same h = absurd (cc worded)
+  refused_length (OfDesign job source) texts roles refused on same h = too_long (subst (λ (x : List Role). IsLengthRefusal most x texts refused) same h)
+  refused_length (Sample number) texts roles refused on same h = absurd (on number refl)
+  refused_length (Corners count) texts roles refused on same h = too_long (subst (λ (x : List Role). IsLengthRefusal most x texts refused) same h)
 
   -- ---- the status of an answer
 
@@ -104,16 +104,42 @@ module _ (most : Most) where
   of_optimise aspect.Whole t view st text (c, optimum, same, is_text) = subst IsOfCommand (sym same) (of_certificate c)
   of_optimise (aspect.Cycle cycle) t view st text (found, is_at, same, is_text) = subst IsOfCommand (sym same) (of_cycle found)
   of_optimise aspect.Histogram t view st text (c, optimum, same, is_text) = subst IsOfCommand (sym same) (of_certificate c)
+  of_optimise (aspect.Schedule None) t view st text (c, optimum, same, is_text) = subst IsOfCommand (sym same) (of_certificate c)
+  of_optimise (aspect.Schedule (Some cycle)) t view st text (found, is_at, same, is_text) = subst IsOfCommand (sym same) (of_cycle found)
 
-  of_job : (job : Job) (told : Aspect) (t : Timing) (file : List ℕ) (view : View) (st : Status) (text : List ℕ) → IsJobAnswer most job told t file view st text → IsOfCommand st
-  of_job Check told t file view st text (s, is_of, judged) = of_judgement t s view st text judged
-  of_job Optimise told t file view st text h = of_optimise told t view st text h
-  of_job Verify told t file view st text h = absurd h
-  of_job Report told t file view st text h = absurd h
-  of_job Safe told t file view st text (c, optimum, same, rest) = subst IsOfCommand (sym same) (of_safe c)
-  of_job Slack told t file view st text (few, (x, answer, same, is_text)) = subst IsOfCommand (sym same) (of_slacks x)
+  of_verdict : (v : Verdict) → IsOfCommand (verdict_status v)
+  of_verdict Valid = tt
+  of_verdict (Invalid n) = tt
 
-  pub of_command : {E : Type 0} (r : Result Answer E) (job : Job) (told : Aspect) (source : Source) (texts : List (List ℕ)) (view : View) →
-      IfOk r (λ (a : Answer). IsContentAnswer most (OfDesign job source) told texts view a.status a.text) → IfOk r (λ (a : Answer). IsOfCommand a.status)
-  of_command (Err e) job told source texts view h = tt
-  of_command (Ok a) job told source texts view (t, gives, h) = of_job job told t (own_file source texts) view a.status a.text h
+  of_certified : (v : Verdict) (c : Certificate) → IsOfCommand (certified_status v c)
+  of_certified Valid c = of_certificate c
+  of_certified (Invalid n) c = tt
+
+  of_verify : (told : Aspect) (t : Timing) (c : Certificate) (design : List ℕ) (view : View) (st : Status) (text : List ℕ) → IsVerifyAnswer t told c design view st text → IsOfCommand st
+  of_verify aspect.Whole t c design view st text (v, is, same, is_text) = subst IsOfCommand (sym same) (of_verdict v)
+  of_verify (aspect.Cycle cycle) t c design view st text (v, is, same, is_text) = subst IsOfCommand (sym same) (of_verdict v)
+  of_verify aspect.Histogram t c design view st text (v, is, same, is_text) = subst IsOfCommand (sym same) (of_verdict v)
+  of_verify (aspect.Schedule cycle) t c design view st text (v, is, same, is_text) = subst IsOfCommand (sym same) (of_certified v c)
+
+  of_job : (job : Job) (told : Aspect) (beside : List (List ℕ)) (t : Timing) (file : List ℕ) (view : View) (st : Status) (text : List ℕ) → IsJobAnswer most job told beside t file view st text →
+      IsOfCommand st
+  of_job Check told beside t file view st text (s, is_of, judged) = of_judgement t s view st text judged
+  of_job Optimise told beside t file view st text h = of_optimise told t view st text h
+  of_job Verify told beside t file view st text (c, is_text, h) = of_verify told t c (name_beside beside) view st text h
+  of_job Report told beside t file view st text (c, optimum, same, rest) = subst IsOfCommand (sym same) (of_certificate c)
+  of_job Safe told beside t file view st text (c, optimum, same, rest) = subst IsOfCommand (sym same) (of_safe c)
+  of_job Slack told beside t file view st text (few, (x, answer, same, is_text)) = subst IsOfCommand (sym same) (of_slacks x)
+
+  of_corners : (c : CornerCertificate) → IsOfCommand (corner_status c)
+  of_corners (joint.Least s ds m) = tt
+  of_corners (joint.Never m) = tt
+
+  of_content : (command : Command) (told : Aspect) (beside texts : List (List ℕ)) (view : View) (st : Status) (text : List ℕ) → IsContentAnswer most command told beside texts view st text → IsOfCommand st
+  of_content (OfDesign job source) told beside texts view st text (t, gives, h) = of_job job told beside t (own_file source texts) view st text h
+  of_content (Sample number) told beside texts view st text h = absurd h
+  of_content (Corners count) told beside texts view st text (ts, given, few, (c, optimum, same, rest)) = subst IsOfCommand (sym same) (of_corners c)
+
+  pub of_command : {E : Type 0} (r : Result Answer E) (command : Command) (told : Aspect) (beside texts : List (List ℕ)) (view : View) →
+      IfOk r (λ (a : Answer). IsContentAnswer most command told beside texts view a.status a.text) → IfOk r (λ (a : Answer). IsOfCommand a.status)
+  of_command (Err e) command told beside texts view h = tt
+  of_command (Ok a) command told beside texts view h = of_content command told beside texts view a.status a.text h

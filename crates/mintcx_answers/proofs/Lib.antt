@@ -1,2 +1,5 @@
 mod AnsweringLaws
 mod JobLaws
+mod ScheduleLaws
+mod CornerLaws
+mod VerdictLaws

@@ -1,19 +1,32 @@
 -- What is answered for people to a command on the bytes of its files: mintc's status, and a text of what is found.
-use Rattle.std.specs.Prelude.{◌≡◌, ◌≢◌, ◌≤◌, ◌⊎◌, ℤ, pos, ℕ, Bool, true, false, List, []}
+use Rattle.std.specs.Prelude.{◌≡◌, ◌≢◌, ◌≤◌, ◌⊎◌, ℤ, pos, ℕ, List, [], length, slice_index_or}
+use Rattle.std.specs.Bool.{OnFalse, OnTrue}
+use Rattle.std.specs.Prelude.{Bool, true, false, ◌==◌, ◌||◌, Option, Some, None}
+use Rattle.std.specs.List.{AllZip}
 use Rattle.mintc_fraction.specs.Ratio.{Ratio, over}
+use Rattle.mintc_text.specs.Lines.{text_of}
 use Rattle.mintc_text.specs.declared.limits.Most.{Most}
 use Rattle.mintc_timing.specs.Departures.{AreEarly, AreExact, AreLate}
 use Rattle.mintc_timing.specs.Design.{Timing, element_count, phase_count}
 use Rattle.mintc_timing.specs.Violations.{AreViolations}
 use Rattle.mintc_timing.specs.declared.clocking.Schedule.{Schedule}
 use Rattle.mintc_timing.specs.declared.violation.Violation.{Violation}
+use Rattle.mintc_timing_text.specs.LineForms.{schedule_text_lines}
+use Rattle.mintc_certificate.specs.CertificateText.{IsCertificateText}
 use Rattle.mintc_certificate.specs.declared.certificate.Certificate.{Certificate}
 use Rattle.mintc_certificate.specs.declared.certificate.Certificate.TheVariants as certificate
+use Rattle.mintc_checker.specs.Verdicts.{IsVerdict}
+use Rattle.mintc_checker.specs.declared.verdict.Verdict.{Verdict}
+use Rattle.mintc_checker.specs.declared.verdict.Verdict.TheVariants as verdict
 use Rattle.mintc_safe.specs.SafeOptimum.{IsSafeOptimum}
 use Rattle.mintc_safe.specs.declared.certificate.SafeCertificate.{SafeCertificate}
 use Rattle.mintc_slack.specs.Answers.{IsSlackAnswer}
 use Rattle.mintc_slack.specs.declared.finding.Slacks.{Slacks}
+use Rattle.mintc_corners.specs.CornerOptimum.{IsOptimumOf}
+use Rattle.mintc_corners.specs.declared.certificate.CornerCertificate.{CornerCertificate}
+use Rattle.mintc_command_answers.specs.Corners.{AreGiven, corner_status, corners_of, elements_together}
 use Rattle.mintc_command_answers.specs.Jobs.{IsOptimum, IsScheduleOf, certificate_status, safe_status, slack_status}
+use Rattle.mintc_command_answers.specs.Jobs.{verdict_status}
 use Rattle.mintc_command_answers.specs.Sources.{AreShort, Gives, own_file}
 use Rattle.mintc_command_answers.specs.declared.command.Command.{Command}
 use Rattle.mintc_command_answers.specs.declared.command.Command.TheVariants.{OfDesign, Sample, Corners}
@@ -30,25 +43,13 @@ use Rattle.mintcx_judgements.specs.Passes.{IsPassText}
 use Rattle.mintcx_optima.specs.Cycles.{IsCycleText}
 use Rattle.mintcx_optima.specs.Optimum.{IsOptimumText}
 use Rattle.mintcx_optima.specs.Safe.{IsSafeText}
+use Rattle.mintcx_joint.specs.CornersText.{IsCornersText}
+use Rattle.mintcx_reports.specs.Reports.{IsReportText}
 use Rattle.mintcx_slacks.specs.Histograms.{IsHistogramText}
 use Rattle.mintcx_slacks.specs.Slacks.{IsSlackText}
+use Rattle.mintcx_verdicts.specs.Verdicts.{IsVerdictText}
 use Rattle.mintcx_translation.specs.declared.calls.Aspect.{Aspect}
 use Rattle.mintcx_translation.specs.declared.calls.Aspect.TheVariants as aspect
-
--- there is a text for people that answers the job
-abbrev pub job_has_text : Job → Bool
-job_has_text Check = true
-job_has_text Optimise = true
-job_has_text Verify = false
-job_has_text Report = false
-job_has_text Safe = true
-job_has_text Slack = true
-
--- there is one that answers the command
-abbrev pub has_text : Command → Bool
-has_text (OfDesign job from) = job_has_text job
-has_text (Corners count) = false
-has_text (Sample number) = false
 
 -- ---- the judgement of a schedule
 
@@ -95,10 +96,37 @@ abbrev pub IsCycleAnswer : Timing → ℕ → View → Status → List ℕ → T
 IsCycleAnswer t cycle view status text = (found : AtCycle) × IsAtCycle t cycle found × (status ≡ cycle_status found)
     × IsCycleText t.flat cycle found view text
 
+-- The text is a schedule's own, as `check` takes it.
+abbrev pub IsOwnText : Schedule → List ℕ → Type 0
+IsOwnText s text = text ≡ text_of (schedule_text_lines s)
+
+-- the schedule of a certificate, or else the text of the chain that forbids every cycle time
+abbrev pub IsScheduleOrNever : Timing → Certificate → View → List ℕ → Type 0
+IsScheduleOrNever t (certificate.Least s departures chain) view text = IsOwnText s text
+IsScheduleOrNever t (certificate.Never chain) view text = IsOptimumText t.flat (certificate.Never chain) view text
+
+-- the schedule at a cycle time, or else the text of the chain that forbids it
+abbrev pub IsScheduleOrShort : Timing → ℕ → AtCycle → View → List ℕ → Type 0
+IsScheduleOrShort t cycle (at.Right s departures) view text = IsOwnText s text
+IsScheduleOrShort t cycle (at.Short chain) view text = IsCycleText t.flat cycle (at.Short chain) view text
+
+-- The answer of `schedule`: the schedule of the least cycle time, or of another one in femtoseconds.
+abbrev pub IsTimedAnswer : Timing → Option ℕ → View → Status → List ℕ → Type 0
+IsTimedAnswer t None view status text = (c : Certificate) × IsOptimum t c × (status ≡ certificate_status c)
+    × IsScheduleOrNever t c view text
+IsTimedAnswer t (Some cycle) view status text = (found : AtCycle) × IsAtCycle t cycle found
+    × (status ≡ cycle_status found) × IsScheduleOrShort t cycle found view text
+
 -- the answer of `optimise`, of the least cycle time or of another one
 abbrev pub IsOptimiseAnswer : Timing → Aspect → View → Status → List ℕ → Type 0
 IsOptimiseAnswer t (aspect.Cycle cycle) view status text = IsCycleAnswer t cycle view status text
+IsOptimiseAnswer t (aspect.Schedule cycle) view status text = IsTimedAnswer t cycle view status text
 IsOptimiseAnswer t told view status text = IsOptimumAnswer t view status text
+
+-- The answer of `report`: the report of an optimum, with the cells of its gates.
+abbrev pub IsReportAnswer : Timing → View → Status → List ℕ → Type 0
+IsReportAnswer t view status text = (c : Certificate) × IsOptimum t c × (status ≡ certificate_status c)
+    × ((cells : List (List ℕ)) × IsReportText t c cells view text)
 
 -- the least cycle time of a certificate in femtoseconds, 0 where no schedule is right
 abbrev pub least_cycle : Certificate → Ratio
@@ -120,28 +148,86 @@ abbrev pub IsSlacksAnswer : Timing → Aspect → View → Status → List ℕ �
 IsSlacksAnswer t told view status text = (x : Slacks) × IsSlackAnswer t x × (status ≡ slack_status x)
     × IsTextOfSlacks t told view x text
 
+-- ---- certificates
+
+-- what the design is called beside a certificate
+abbrev pub name_beside : List (List ℕ) → List ℕ
+name_beside beside = slice_index_or beside 0 []
+
+-- A rule of the clock or a bound fails: the second test or the third.
+abbrev pub fails_rule : Verdict → Bool
+fails_rule verdict.Valid = false
+fails_rule (verdict.Invalid n) = (n == 2) || (n == 3)
+
+-- The violations with which a verdict is told: those of the schedule where a rule or a bound fails, and else none.
+abbrev pub AreOfVerdict : Timing → Certificate → Verdict → List Violation → Type 0
+AreOfVerdict t (certificate.Least s departures chain) v vs =
+    OnTrue (fails_rule v) (AreViolations t s vs) × OnFalse (fails_rule v) (vs ≡ [])
+AreOfVerdict t (certificate.Never chain) v vs = vs ≡ []
+
+-- the text of a verdict on a certificate of a design that is called so
+abbrev pub IsToldVerdict : Timing → Certificate → List ℕ → View → Verdict → List ℕ → Type 0
+IsToldVerdict t c design view v text = (vs : List Violation) × AreOfVerdict t c v vs
+    × IsVerdictText t c design view vs v text
+
+-- how a run ends that tells the schedule of a certificate with this verdict
+abbrev pub certified_status : Verdict → Certificate → Status
+certified_status verdict.Valid c = certificate_status c
+certified_status (verdict.Invalid n) c = Found
+
+-- the schedule of a certificate that is valid and has one, or else the text of the verdict
+abbrev pub IsScheduleOrVerdict : Timing → Certificate → List ℕ → View → Verdict → List ℕ → Type 0
+IsScheduleOrVerdict t (certificate.Least s departures chain) design view verdict.Valid text = IsOwnText s text
+IsScheduleOrVerdict t c design view v text = IsToldVerdict t c design view v text
+
+-- The answer of `verify`: the text of the verdict on a certificate; or of `schedule`: its schedule.
+abbrev pub IsVerifyAnswer : Timing → Aspect → Certificate → List ℕ → View → Status → List ℕ → Type 0
+IsVerifyAnswer t (aspect.Schedule cycle) c design view status text = (v : Verdict) × IsVerdict t c v
+    × (status ≡ certified_status v c) × IsScheduleOrVerdict t c design view v text
+IsVerifyAnswer t told c design view status text = (v : Verdict) × IsVerdict t c v
+    × (status ≡ verdict_status v) × IsToldVerdict t c design view v text
+
+-- ---- corners
+
+-- The answer of `corners`: the text of the optimum of all corners, with the optimum of each alone.
+abbrev pub IsCornersAnswer : List Timing → List (List ℕ) → View → Status → List ℕ → Type 0
+IsCornersAnswer ts names view status text = (c : CornerCertificate) × IsOptimumOf ts c × (status ≡ corner_status c)
+    × ((alone : List Certificate) × AllZip IsOptimum ts alone × IsCornersText ts names alone c view text)
+
 -- ---- commands
 
 -- The answer to a job, with what of it is told, on a design and on the text of the file that stands beside the
 -- design's.
-abbrev pub IsJobAnswer : Most → Job → Aspect → Timing → List ℕ → View → Status → List ℕ → Type 0
-IsJobAnswer most Check told t file view status text = IsCheckAnswer t file view status text
-IsJobAnswer most Optimise told t file view status text = IsOptimiseAnswer t told view status text
-IsJobAnswer most Verify told t file view status text = ⊥
-IsJobAnswer most Report told t file view status text = ⊥
-IsJobAnswer most Safe told t file view status text = IsSafeAnswer t view status text
-IsJobAnswer most Slack told t file view status text = (element_count t.flat ≤ most.slack)
+abbrev pub IsJobAnswer : Most → Job → Aspect → List (List ℕ) → Timing → List ℕ → View → Status → List ℕ → Type 0
+IsJobAnswer most Check told beside t file view status text = IsCheckAnswer t file view status text
+IsJobAnswer most Optimise told beside t file view status text = IsOptimiseAnswer t told view status text
+IsJobAnswer most Verify told beside t file view status text = (c : Certificate) × IsCertificateText most.members file c
+    × IsVerifyAnswer t told c (name_beside beside) view status text
+IsJobAnswer most Report told beside t file view status text = IsReportAnswer t view status text
+IsJobAnswer most Safe told beside t file view status text = IsSafeAnswer t view status text
+IsJobAnswer most Slack told beside t file view status text = (element_count t.flat ≤ most.slack)
     × IsSlacksAnswer t told view status text
 
--- The answer of a command on texts of which none is refused.
-abbrev pub IsContentAnswer : Most → Command → Aspect → List (List ℕ) → View → Status → List ℕ → Type 0
-IsContentAnswer most (OfDesign job from) told files view status text = (t : Timing) × Gives most from files t
-    × IsJobAnswer most job told t (own_file from files) view status text
-IsContentAnswer most (Sample number) told files view status text = ⊥
-IsContentAnswer most (Corners count) told files view status text = ⊥
+-- The answer of a command on texts of which none is refused; what stands beside its subject is called so.
+abbrev pub IsContentAnswer : Most → Command → Aspect → List (List ℕ) → List (List ℕ) → View → Status → List ℕ → Type 0
+IsContentAnswer most (OfDesign job from) told beside files view status text = (t : Timing) × Gives most from files t
+    × IsJobAnswer most job told beside t (own_file from files) view status text
+IsContentAnswer most (Sample number) told beside files view status text = ⊥
+IsContentAnswer most (Corners count) told beside files view status text =
+    (ts : List Timing) × AreGiven most (corners_of files) ts × (elements_together ts ≤ most.elements)
+    × IsCornersAnswer ts beside view status text
+
+-- The command is asked of files, so it is no sample.
+abbrev pub IsOnFiles : Command → Type 0
+IsOnFiles command = (number : ℕ) → command ≢ Sample number
+
+-- Each file of delays of corners has a name.
+abbrev pub AreNamed : Command → List (List ℕ) → Type 0
+AreNamed (Corners count) beside = length beside ≡ count
+AreNamed command beside = Unit {0}
 
 -- The answer for people to a command, on the bytes of its files, of which none is refused: the status, which is mintc's
 -- where the whole is told, and the text of what is found, shown in this view.
-abbrev pub HasAnswer : Most → Command → Aspect → List (List ℕ) → View → Status → List ℕ → Type 0
-HasAnswer most command told files view status text = AreShort most files
-    × IsContentAnswer most command told files view status text
+abbrev pub HasAnswer : Most → Command → Aspect → List (List ℕ) → List (List ℕ) → View → Status → List ℕ → Type 0
+HasAnswer most command told beside files view status text = AreShort most files
+    × IsContentAnswer most command told beside files view status text

@@ -1,5 +1,5 @@
 //! What is asked of a design, in a text for people.
-ghost use Rattle.std.specs.Prelude.{◌≡◌, ◌≢◌, ◌≤◌, ◌+◌, ◌*◌, [], List, ℕ, true, length, IfOk, IfErr};
+ghost use Rattle.std.specs.Prelude.{◌≡◌, ◌≢◌, ◌≤◌, ◌+◌, ◌*◌, [], List, ℕ, length, IfOk, IfErr};
 ghost use Rattle.mintc_fraction.specs.Ratio.{IsModest, over};
 ghost use Rattle.mintc_text.specs.Stops.{StopsAt};
 ghost use Rattle.mintc_text.specs.declared.limits.TheConstants.{MOST_SLACK};
@@ -12,8 +12,11 @@ ghost use Rattle.mintc_command_answers.specs.Jobs.{safe_status, slack_status};
 ghost use Rattle.mintc_slack.specs.Answers.{AreOfPairs};
 ghost use Rattle.mintcx_answers.specs.Answers.{IsCheckAnswer, IsCycleAnswer, IsFail, IsJobAnswer, IsJudgement};
 ghost use Rattle.mintcx_answers.specs.Answers.{IsOptimiseAnswer, IsOptimumAnswer, IsSafeAnswer, IsSlacksAnswer};
-ghost use Rattle.mintcx_answers.specs.Answers.{IsTextOfSlacks, cycle_status, job_has_text, least_cycle};
+ghost use Rattle.mintcx_answers.specs.Answers.{IsTextOfSlacks, cycle_status, least_cycle};
 
+use crate::reports::report_answer;
+use crate::schedules::timed_answer;
+use crate::verdicts::verify_answer;
 use mintc_certificate::Certificate;
 use mintc_command_answers::{
     Answer, Job, Status, optimum, room_for, safe_from, schedule_of, slacks_from,
@@ -21,10 +24,11 @@ use mintc_command_answers::{
 use mintc_constraints::Room;
 use mintc_departure::{Settling, early, late, violations};
 use mintc_fraction::Fraction;
+use mintc_netlist::Netlist;
 use mintc_safe::SafeCertificate;
 use mintc_slack::Slacks;
 use mintc_text::limits::MOST_BYTES;
-use mintc_text::{Bytes, Kind, Limits, OutOfMemory, Refusal, Stop};
+use mintc_text::{Bytes, Kind, Limits, Name, OutOfMemory, Refusal, Stop};
 use mintc_timing::{Schedule, System, Violation};
 use mintcx_cycles::{AtCycle, at_cycle_uncounted};
 use mintcx_frame::View;
@@ -36,11 +40,14 @@ use std::alloc::Global;
 use std::marker::Brand;
 use std::sync::ledger::Blank;
 
-/// What is asked of a design, and what of it is told.
+/// What is asked of a design, and what of it is told; what is beside its files as they are called, and the netlist that
+/// names the cells of a report's gates.
 #[derive(Clone, Copy)]
-pub(crate) struct Question {
+pub(crate) struct Work<'a, 'b> {
     pub(crate) job: Job,
     pub(crate) aspect: Aspect,
+    pub(crate) beside: &'a [Name],
+    pub(crate) netlist: Option<&'b Netlist>,
 }
 
 /// The text of a fail that breaks just these. Where its departures don't settle, it names none.
@@ -135,7 +142,7 @@ fn check_answer(alloc: Global, system: &System, file: &[u8], view: &View) -> Res
 }
 
 /// How a run ends that has this certificate.
-fn status_of(certificate: &Certificate) -> Status
+pub(crate) fn certificate_status(certificate: &Certificate) -> Status
     ensures { result ≡ certificate_status certificate.now }
 {
     match certificate {
@@ -150,12 +157,12 @@ fn optimum_answer(alloc: Global, system: &System, view: &View) -> Result<Answer,
 {
     let certificate = optimum(alloc, system)?;
     let text = optimum_text(alloc, system, &certificate, view)?;
-    let status = status_of(&certificate);
+    let status = certificate_status(&certificate);
     Ok(Answer { status, text })
 }
 
 /// How a run ends that has found this at a cycle time.
-fn cycle_status(found: &AtCycle) -> Status
+pub(crate) fn cycle_status(found: &AtCycle) -> Status
     ensures { result ≡ cycle_status found.now }
 {
     match found {
@@ -190,6 +197,7 @@ fn optimise_answer(
 {
     match aspect {
         Aspect::Cycle(cycle) => cycle_answer(alloc, system, cycle, view),
+        Aspect::Schedule(cycle) => timed_answer(alloc, cycle, system, view),
         Aspect::Whole | Aspect::Histogram => optimum_answer(alloc, system, view),
     }
 }
@@ -260,7 +268,9 @@ fn text_of_slacks(
 {
     match aspect {
         Aspect::Histogram => histogram_text(alloc, system, slacks, view),
-        Aspect::Whole | Aspect::Cycle(_) => slack_text(alloc, system, slacks, view),
+        Aspect::Whole | Aspect::Cycle(_) | Aspect::Schedule(_) => slack_text(
+            alloc, system, slacks, view,
+        ),
     }
 }
 
@@ -288,8 +298,8 @@ fn slack_answer(
     system: &System,
     view: &View,
 ) -> Result<Answer, Stop>
-    ensures value { (file : List ℕ) → IfOk result
-        (λ answer. IsJobAnswer limits.now Job.Slack aspect system.now file view.now answer.status answer.text) }
+    ensures value { (beside : List (List ℕ)) (file : List ℕ) → IfOk result
+        (λ answer. IsJobAnswer limits.now Job.Slack aspect beside system.now file view.now answer.status answer.text) }
     ensures stop { (file : List ℕ) → IfErr result
         (StopsAt (IsFileRefused limits.now Job.Slack system.now.flat file)) }
 {
@@ -303,28 +313,27 @@ fn slack_answer(
     Ok(slack_answer_within(alloc, aspect, system, view)?)
 }
 
-/// The answer to a job that has a text, on a system and on the file that stands beside the design's, or why that file
-/// is refused.
+/// The answer to a job on a system and on the file that stands beside the design's, or why that file is refused.
 pub(crate) fn job_text(
     alloc: Global,
     limits: &Limits,
-    question: Question,
+    work: &Work<'_, '_>,
     system: &System,
     file: &[u8],
     view: &View,
 ) -> Result<Answer, Stop>
     requires short { length file.now ≤ MOST_BYTES }
-    requires worded { job_has_text question.job ≡ true }
     ensures value { IfOk result
-        (λ answer. IsJobAnswer limits.now question.job question.aspect system.now file.now view.now answer.status
-        answer.text) }
-    ensures stop { IfErr result (StopsAt (IsFileRefused limits.now question.job system.now.flat file.now)) }
+        (λ answer. IsJobAnswer limits.now work.now.job work.now.aspect work.now.beside.now system.now file.now view.now
+        answer.status answer.text) }
+    ensures stop { IfErr result (StopsAt (IsFileRefused limits.now work.now.job system.now.flat file.now)) }
 {
-    match question.job {
+    match work.job {
         Job::Check => check_answer(alloc, system, file, view),
-        Job::Optimise => Ok(optimise_answer(alloc, question.aspect, system, view)?),
+        Job::Optimise => Ok(optimise_answer(alloc, work.aspect, system, view)?),
+        Job::Verify => verify_answer(alloc, limits, work, system, file, view),
+        Job::Report => Ok(report_answer(alloc, work.netlist, system, view)?),
         Job::Safe => Ok(safe_answer(alloc, system, view)?),
-        Job::Slack => slack_answer(alloc, limits, question.aspect, system, view),
-        Job::Verify | Job::Report => unreachable!(),
+        Job::Slack => slack_answer(alloc, limits, work.aspect, system, view),
     }
 }

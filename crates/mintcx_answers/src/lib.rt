@@ -6,8 +6,12 @@
 #![tactic(auto)]
 
 mod answering;
+mod corners;
 mod jobs;
+mod reports;
+mod schedules;
 mod subjects;
+mod verdicts;
 
-pub use answering::{answer_text, has_text};
-pub use subjects::subject_of;
+pub use answering::{Question, answer_text};
+pub use subjects::{names_beside, subject_of};

@@ -1,12 +1,13 @@
 //! What an answer is about.
-ghost use Rattle.std.specs.Prelude.{◌≡◌, ◌≤◌, length};
+ghost use Rattle.std.specs.Prelude.{◌≡◌, ◌≤◌, length, IfOk};
 ghost use Rattle.mintc_command_answers.specs.Commands.{roles_of, source_roles};
+ghost use Rattle.mintcx_answers.specs.Answers.{AreNamed};
 
 use mintc_clock::read_clock;
 use mintc_command_answers::{Command, Job, Source};
 use mintc_netlist::{Item, Module};
 use mintc_text::limits::MOST_BYTES;
-use mintc_text::{Bytes, Lines, Name, OutOfMemory};
+use mintc_text::{Bytes, Lines, Name, Names, OutOfMemory};
 use mintc_text_names::NameSet;
 use mintc_verilog::read_netlist;
 use std::alloc::Global;
@@ -118,7 +119,7 @@ fn under(alloc: Global, design: &Name, schedule: &Name) -> Result<Name, OutOfMem
 }
 
 /// What the answer to a command is about, by the names and the first bytes of its files: the file of a table or the top
-/// module of a netlist, and of a judgement the schedule's file.
+/// module of a netlist, and of a judgement the schedule's file; of a verdict the certificate's file alone.
 pub fn subject_of(
     alloc: Global,
     command: Command,
@@ -130,15 +131,49 @@ pub fn subject_of(
 {
     match command {
         Command::OfDesign { job, source } => {
-            let design = design_subject(alloc, source, names, files)?;
+            let own = &names[names.len() - 1];
             match job {
-                Job::Check => under(alloc, &design, &names[names.len() - 1]),
-                _ => Ok(design),
+                Job::Check => under(alloc, &design_subject(alloc, source, names, files)?, own),
+                Job::Verify => Name::new(alloc, base_name(own)),
+                _ => design_subject(alloc, source, names, files),
             }
         }
         Command::Corners { .. } => {
             netlist_subject(alloc, &names[0], files[0].items(), files[2].items())
         }
         Command::Sample { .. } => Name::new(alloc, b"sample"),
+    }
+}
+
+/// The names of files without their folders.
+fn base_names(alloc: Global, names: &[Name]) -> Result<Names, OutOfMemory>
+    ensures { IfOk result (λ bases. length bases ≡ length names.now) }
+{
+    let mut bases = Vec::new(alloc);
+    for name in names {
+        bases.push(Name::new(alloc, base_name(name))?)?;
+    }
+    Ok(Names::new(bases))
+}
+
+/// What stands beside the subject of an answer, as it is called: of `verify` the design, and of `corners` the files of
+/// delays, in their order.
+pub fn names_beside(
+    alloc: Global,
+    command: Command,
+    names: &[Name],
+    files: &[Bytes],
+) -> Result<Names, OutOfMemory>
+    requires count { length files.now ≡ length (roles_of command) }
+    requires names { length names.now ≡ length (roles_of command) }
+    ensures { IfOk result (AreNamed command) }
+{
+    match command {
+        Command::OfDesign {
+            job: Job::Verify,
+            source,
+        } => Ok(Names::new(vec![in alloc; design_subject(alloc, source, names, files)?]?)),
+        Command::Corners { .. } => base_names(alloc, &names[3..]),
+        Command::OfDesign { .. } | Command::Sample { .. } => Ok(Names::new(Vec::new(alloc))),
     }
 }

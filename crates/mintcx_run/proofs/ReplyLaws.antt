@@ -12,22 +12,15 @@ use Rattle.mintcx_requests.specs.declared.requests.Request.{Request}
 use Rattle.mintcx_requests.specs.declared.requests.Request.TheVariants as request
 use Rattle.mintcx_project.specs.declared.project.Settings.{Settings}
 use Rattle.mintcx_translation.specs.declared.calls.Gap.TheVariants as gap
-use Rattle.mintcx_answers.specs.Answers.{has_text}
 use Rattle.mintcx_run.specs.declared.calling.Order.{Order}
 use Rattle.mintcx_run.specs.declared.reply.Reply.{Reply}
-use Rattle.mintcx_run.specs.Replies.{AreUnread, IsAnswerReply, IsCallReply, IsEarlyReply, IsGapReply, IsGiven, IsGivenReply, IsMessage, IsOrderOf, IsOrdered, IsReply, IsSettings, IsUnread, IsWordsReply}
+use Rattle.mintcx_run.specs.Replies.{AreUnread, IsCallReply, IsEarlyReply, IsFrontsReply, IsGapReply, IsGiven, IsGivenReply, IsMessage, IsOrderOf, IsOrdered, IsReply, IsSettings, IsUnread, IsWordsReply}
 
 -- an explanation isn't there yet
 pub explain_gap : (asked : Request) (topic : Text) (reply : Reply) → asked ≡ request.Explain topic → IsMessage Usage reply → IsGapReply asked reply
 explain_gap asked topic reply is h =
-    let own : IsGapReply (request.Explain topic) reply = inr (inl (gap.Explain, refl, h)) in
+    let own : IsGapReply (request.Explain topic) reply = inr (gap.Explain, refl, h) in
     subst (λ (x : Request). IsGapReply x reply) (sym is) own
-
--- nor a text of a command
-pub unworded : (r : Result Order Reply) (asked : Request) (order : Order) → IsOrderOf asked order →
-    IfErr r (λ (reply : Reply). (has_text order.call.command ≡ false) × IsMessage Usage reply) → IfErr r (IsGapReply asked)
-unworded (Ok o) asked order is h = tt
-unworded (Err reply) asked order is h = inr (inr (order, is, h.0, h.1))
 
 -- so the request has no call
 pub early_gap : (r : Result Order Reply) (given : Given) (files : Option Files) (settings : Settings) (asked : Request) → IsSettings files given.project settings → request_of given settings ≡ Ok asked →
@@ -40,7 +33,7 @@ pub unread_one : (names : List Text) (n : ℕ) (name : Text) (reply : Reply) →
 unread_one names n name reply below is h = inr (name, subst (λ (x : Text). Contains names x) (sym is) (Contains-get_or names n name below), h)
 
 -- the answer to a call, of files that are read
-pub call_answered : (files : Option Files) (order : Order) (fronts : List Text) (reply : Reply) → AreFronts files (MOST_BYTES + 1) order.call.files fronts → IsAnswerReply order fronts reply →
+pub call_answered : (files : Option Files) (order : Order) (fronts : List Text) (reply : Reply) → AreFronts files (MOST_BYTES + 1) order.call.files fronts → IsFrontsReply order fronts reply →
     IsCallReply files order reply
 call_answered files order fronts reply are h = inr (fronts, are, h)
 

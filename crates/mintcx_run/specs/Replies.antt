@@ -1,16 +1,23 @@
 -- What a run replies to its words, over the files of a shelf, and what it leaves.
-use Rattle.std.specs.Prelude.{◌≡◌, ◌≢◌, ◌<◌, ◌≤◌, ◌+◌, ◌⊎◌, ℕ, List, length, Option, Some, None}
-use Rattle.std.specs.Prelude.{true, false, Ok, Err, Contains, IsUtf8, codes, if◌then◌else◌}
+use Rattle.std.specs.Prelude.{◌≡◌, ◌<◌, ◌≤◌, ◌+◌, ◌⊎◌, ℕ, List, length, slice_set, Option, Some, None}
+use Rattle.std.specs.Prelude.{Bool, true, false, ◌&&◌, not, Ok, Err, Contains, IsUtf8, codes, if◌then◌else◌}
 use Rattle.clap.specs.Words.{App}
 use Rattle.mintc_text.specs.Limits.{large}
 use Rattle.mintc_text.specs.declared.limits.TheConstants.{MOST_BYTES}
 use Rattle.mintc_text.specs.declared.refusals.Refusal.{Refusal}
+use Rattle.mintc_text.specs.declared.refusals.Refusal.TheVariants as refusal
+use Rattle.mintc_text.specs.declared.refusals.Role.TheVariants as role
 use Rattle.mintc_text.specs.Outside.{Files, IsFront}
+use Rattle.mintc_cells.specs.declared.cell.Cell.{Cell}
+use Rattle.mintc_cells.specs.CellsOf.{AreCells}
+use Rattle.mintc_liberty.specs.Meaning.{liberty_cells}
 use Rattle.mintc_command.specs.Answers.{AreFronts}
 use Rattle.mintc_command_answers.specs.Answers.{IsDefined, IsFirstRefusal, IsOfCommand}
+use Rattle.mintc_command_answers.specs.Sources.{file_at}
 use Rattle.mintc_command_answers.specs.declared.status.Status.{Status}
 use Rattle.mintc_command_answers.specs.declared.status.Status.TheVariants.{Done, Refused, Usage, ReadFault}
 use Rattle.mintc_command_answers.specs.declared.status.Status.TheVariants.{OutOfMemory}
+use Rattle.mintcx_manners.specs.declared.manners.Format.{Format}
 use Rattle.mintcx_manners.specs.declared.manners.Format.TheVariants as format
 use Rattle.mintcx_project.specs.Projects.{IsFaultOf, Says, no_settings}
 use Rattle.mintcx_project.specs.declared.project.ProjectFault.{ProjectFault}
@@ -23,6 +30,8 @@ use Rattle.mintcx_requests.specs.declared.requests.Manner.{Manner}
 use Rattle.mintcx_requests.specs.declared.requests.Request.{Request}
 use Rattle.mintcx_requests.specs.declared.requests.Request.TheVariants as request
 use Rattle.mintcx_translation.specs.Calls.{call_for}
+use Rattle.mintcx_translation.specs.declared.calls.Aspect.{Aspect}
+use Rattle.mintcx_translation.specs.declared.calls.Aspect.TheVariants as aspect
 use Rattle.mintcx_translation.specs.declared.calls.Call.{Call}
 use Rattle.mintcx_translation.specs.declared.calls.Gap.{Gap}
 use Rattle.mintcx_translation.specs.declared.calls.Gap.TheVariants as gap
@@ -30,7 +39,7 @@ use Rattle.mintcx_words.specs.CommandLine.{IsProgram}
 use Rattle.mintcx_words.specs.Misread.{IsReading}
 use Rattle.mintcx_words.specs.declared.words.Misread.{Misread}
 use Rattle.mintcx_words.specs.declared.words.Misread.TheVariants as misread
-use Rattle.mintcx_answers.specs.Answers.{HasAnswer, has_text}
+use Rattle.mintcx_answers.specs.Answers.{HasAnswer}
 use Rattle.mintcx_frame.specs.declared.view.View.{View}
 use Rattle.mintcx_run.specs.declared.calling.Order.{Order}
 use Rattle.mintcx_run.specs.declared.reply.Place.{Place}
@@ -123,14 +132,9 @@ abbrev pub HasGap : Request → Gap → Type 0
 HasGap (request.Explain topic) missing = missing ≡ gap.Explain
 HasGap (request.OfDesign what files clamp manner) missing = call_for manner.format clamp what files ≡ Err missing
 
--- the answer to a call has the form that is asked: mintc's own, or a text for people that is there
-abbrev pub IsWorded : Order → Type 0
-IsWorded order = (order.manner.format ≡ format.Plain) ⊎ (has_text order.call.command ≡ true)
-
--- something of a request isn't there yet, maybe the text for people, and it is said
+-- something of a request isn't there yet, and it is said
 abbrev pub IsGapReply : Request → Reply → Type 0
-IsGapReply asked reply = IsOutOfMemory reply ⊎ (((missing : Gap) × HasGap asked missing × IsMessage Usage reply)
-    ⊎ ((order : Order) × IsOrderOf asked order × (has_text order.call.command ≡ false) × IsMessage Usage reply))
+IsGapReply asked reply = IsOutOfMemory reply ⊎ ((missing : Gap) × HasGap asked missing × IsMessage Usage reply)
 
 -- words and settings are no request, and it is said why
 abbrev pub IsFaultyReply : Given → Settings → Reply → Type 0
@@ -164,9 +168,10 @@ IsPlainReply order fronts reply = IsOutOfMemory reply ⊎ IsPlain order fronts r
 -- the answer to a call for people, in the unit and with the rows that are asked
 pub record IsForPeople (order : Order) (fronts : List Text) (reply : Reply) : Type 0 where
   pub view : View
+  pub beside : List Text
   pub unit : view.unit ≡ order.manner.unit
   pub limit : view.limit ≡ order.manner.limit
-  pub answered : HasAnswer large order.call.command order.call.aspect fronts view reply.status reply.text
+  pub answered : HasAnswer large order.call.command order.call.aspect beside fronts view reply.status reply.text
   pub of_command : IsOfCommand reply.status
   pub placed : reply.place ≡ place_of order.manner
 
@@ -175,17 +180,63 @@ abbrev pub IsTextReply : Order → List Text → Reply → Type 0
 IsTextReply order fronts reply = IsOutOfMemory reply ⊎ (IsForPeople order fronts reply
     ⊎ ((refused : Refusal) × IsFirstRefusal large order.call.command fronts refused × IsMessage Refused reply))
 
+-- the form is mintc's
+abbrev pub is_plain : Format → Bool
+is_plain format.Plain = true
+is_plain form = false
+
+-- a schedule is told, which has one form alone
+abbrev pub is_schedule : Aspect → Bool
+is_schedule (aspect.Schedule cycle) = true
+is_schedule told = false
+
+-- mintc's own answer is asked for
+abbrev pub is_own : Order → Bool
+is_own order = is_plain order.manner.format && not (is_schedule order.call.aspect)
+
 -- the answer in its form
 abbrev pub IsAnswerReply : Order → List Text → Reply → Type 0
-IsAnswerReply order fronts reply = ((order.manner.format ≡ format.Plain) × IsPlainReply order fronts reply)
-    ⊎ ((order.manner.format ≢ format.Plain) × IsTextReply order fronts reply)
+IsAnswerReply order fronts reply = ((is_own order ≡ true) × IsPlainReply order fronts reply)
+    ⊎ ((is_own order ≡ false) × IsTextReply order fronts reply)
+
+-- ---- corners of a library
+
+-- The text is a description of the very cells of a library's text.
+abbrev pub IsDescriptionOf : Text → Text → Type 0
+IsDescriptionOf library text =
+    (cells : List (Text × Cell)) × (liberty_cells library ≡ Ok cells) × AreCells text cells
+
+-- Why a library's text is refused: it is too long, or out of form.
+abbrev pub IsLibraryRefusal : Text → Refusal → Type 0
+IsLibraryRefusal library refused = ((MOST_BYTES < length library) × (refused ≡ refusal.TooLong role.Cells))
+    ⊎ ((length library ≤ MOST_BYTES) × (n : ℕ) × (liberty_cells library ≡ Err n) × (refused ≡ refusal.Syntax role.Cells n))
+
+-- The second file is a library, and a description of its very cells is put in its place.
+abbrev pub AreDescribed : List Text → List Text → Type 0
+AreDescribed fronts described =
+    (text : Text) × IsDescriptionOf (file_at fronts 1) text × (described ≡ slice_set fronts 1 text)
+
+-- the library is too long or out of form, and it is said; or memory was wanting
+abbrev pub IsLibraryReply : List Text → Reply → Type 0
+IsLibraryReply fronts reply = IsOutOfMemory reply
+    ⊎ ((refused : Refusal) × IsLibraryRefusal (file_at fronts 1) refused × IsMessage Refused reply)
+
+-- the answer with the cells of a library, which is that with their description
+abbrev pub IsReplyOfLibrary : Order → List Text → Reply → Type 0
+IsReplyOfLibrary order fronts reply = IsLibraryReply fronts reply
+    ⊎ ((described : List Text) × AreDescribed fronts described × IsAnswerReply order described reply)
+
+-- the answer to a call, of the first bytes of its files
+abbrev pub IsFrontsReply : Order → List Text → Reply → Type 0
+IsFrontsReply order fronts reply = ((order.call.of_library ≡ false) × IsAnswerReply order fronts reply)
+    ⊎ ((order.call.of_library ≡ true) × IsReplyOfLibrary order fronts reply)
 
 -- The reply to a call of mintc over the files of a shelf: a file can't be read, or the answer in its form, of the first
 -- bytes of the files, one more than a file may have.
 abbrev pub IsCallReply : Option Files → Order → Reply → Type 0
 IsCallReply files order reply = AreUnread order.call.files reply
     ⊎ ((fronts : List Text) × AreFronts files (MOST_BYTES + 1) order.call.files fronts
-    × IsAnswerReply order fronts reply)
+    × IsFrontsReply order fronts reply)
 
 -- What the words give and a project file are this call.
 pub record IsOrdered (given : Given) (files : Option Files) (order : Order) : Type 0 where

@@ -1,26 +1,27 @@
 //! From words to the reply.
-ghost use Rattle.std.specs.Prelude.{◌≡◌, ◌≢◌, ◌≤◌, ℕ, true, false, Ok, length, map, string_bytes, IfOk, IfErr};
+ghost use Rattle.std.specs.Prelude.{◌≡◌, ◌≢◌, ◌<◌, ◌≤◌, ℕ, true, Ok, length, map, string_bytes, IfOk, IfErr};
 ghost use Rattle.mintc_text.specs.Outside.{Rose};
 ghost use Rattle.mintc_command.specs.Answers.{MakesAtMost};
 ghost use Rattle.mintc_command_answers.specs.Commands.{IsNumberInRange, roles_of};
-ghost use Rattle.mintcx_answers.specs.Answers.{has_text};
+ghost use Rattle.mintcx_answers.specs.Answers.{IsOnFiles};
 ghost use Rattle.mintcx_requests.specs.Requests.{request_of};
 ghost use Rattle.mintcx_run.specs.Replies.{IsAnswerReply, IsCallReply, IsEarlyReply, IsFaultyReply, IsGapReply};
-ghost use Rattle.mintcx_run.specs.Replies.{IsGivenReply, IsMessage, IsOfReply, IsWorded};
-ghost use Rattle.mintcx_run.specs.Replies.{IsOrderOf, IsOrdered, IsPlainReply, IsReply, IsTextReply, place_of};
+ghost use Rattle.mintcx_run.specs.Replies.{IsFrontsReply, IsGivenReply, IsOfReply, IsOrderOf, IsOrdered};
+ghost use Rattle.mintcx_run.specs.Replies.{IsPlainReply, IsReply, IsTextReply, is_own, place_of};
 
+use crate::libraries::describe;
 use crate::projects::{given_of, settings_of};
 use crate::reading::read_files;
 use crate::refusals::refused;
 use crate::reply::{Place, Reply};
 use mintc_command_answers::{Answer, Status, answer_to};
 use mintc_text::{Bytes, Limits, OutOfMemory, Shelf, Stop};
-use mintcx_answers::{answer_text, has_text, subject_of};
+use mintcx_answers::{Question, answer_text, names_beside, subject_of};
 use mintcx_frame::View;
 use mintcx_manners::Format;
 use mintcx_project::Settings;
 use mintcx_requests::{Design, Given, Manner, Request, Task, request_of};
-use mintcx_translation::{Call, Gap, NoCall, call_of};
+use mintcx_translation::{Aspect, Call, Gap, NoCall, call_of};
 use std::alloc::Global;
 
 /// A call of mintc, and how its answer is given.
@@ -41,20 +42,6 @@ fn asked_of(alloc: Global, given: Given, settings: Settings) -> Result<Request, 
     }
 }
 
-/// A call whose answer has the form that is asked, or that this isn't there yet.
-fn worded(alloc: Global, order: Order) -> Result<Order, Reply>
-    ensures value { IfOk result (λ same. same ≡ order) }
-    ensures worded { IfOk result IsWorded }
-    ensures reply { IfErr result (λ reply. (has_text order.call.command ≡ false) × IsMessage Status.Usage reply) }
-{
-    let is_plain = matches!(order.manner.format, Format::Plain);
-    if is_plain || has_text(order.call.command) {
-        Ok(order)
-    } else {
-        Err(Reply::message(alloc, Status::Usage, &Gap::ForPeople))
-    }
-}
-
 /// The call of mintc for a task on a design, or what isn't there yet.
 fn design_order(
     alloc: Global,
@@ -66,11 +53,12 @@ fn design_order(
     ensures value { IfOk result (IsOrderOf (Request.OfDesign task design clamp manner)) }
     ensures count { IfOk result (λ order. length order.call.files ≡ length (roles_of order.call.command)) }
     ensures in_range { IfOk result (λ order. IsNumberInRange order.call.command) }
-    ensures worded { IfOk result IsWorded }
+    ensures on_files { IfOk result (λ order. IsOnFiles order.call.command) }
+    ensures library { IfOk result (λ order. order.call.of_library ≡ true → 1 < length order.call.files) }
     ensures reply { IfErr result (IsGapReply (Request.OfDesign task design clamp manner)) }
 {
     match call_of(alloc, manner.format, clamp, task, design) {
-        Ok(call) => worded(alloc, Order { call, manner }),
+        Ok(call) => Ok(Order { call, manner }),
         Err(NoCall::Missing(gap)) => Err(Reply::message(alloc, Status::Usage, &gap)),
         Err(NoCall::OutOfMemory) => Err(Reply::out_of_memory(alloc)),
     }
@@ -81,7 +69,8 @@ fn order_of(alloc: Global, asked: Request) -> Result<Order, Reply>
     ensures value { IfOk result (IsOrderOf asked) }
     ensures count { IfOk result (λ order. length order.call.files ≡ length (roles_of order.call.command)) }
     ensures in_range { IfOk result (λ order. IsNumberInRange order.call.command) }
-    ensures worded { IfOk result IsWorded }
+    ensures on_files { IfOk result (λ order. IsOnFiles order.call.command) }
+    ensures library { IfOk result (λ order. order.call.of_library ≡ true → 1 < length order.call.files) }
     ensures reply { IfErr result (IsGapReply asked) }
 {
     match asked {
@@ -144,22 +133,23 @@ fn view_of(alloc: Global, order: &Order, files: &[Bytes]) -> Result<View, OutOfM
 fn text_reply(alloc: Global, order: Order, files: &mut [Bytes]) -> Reply
     requires count { length files.old ≡ length (roles_of order.call.command) }
     requires names { length order.call.files ≡ length (roles_of order.call.command) }
-    requires worded { has_text order.call.command ≡ true }
+    requires in_range { IsNumberInRange order.call.command }
+    requires on_files { IsOnFiles order.call.command }
     ensures reply { IsTextReply order files.old result }
     ensures status { IsOfReply result.status }
 {
     let Ok(view) = view_of(alloc, &order, files) else {
         return Reply::out_of_memory(alloc);
     };
-    let call = &order.call;
-    match answer_text(
-        alloc,
-        &Limits::large(),
-        call.command,
-        call.aspect,
-        &view,
-        files,
-    ) {
+    let Ok(beside) = names_beside(alloc, order.call.command, order.call.files.items(), files) else {
+        return Reply::out_of_memory(alloc);
+    };
+    let question = Question {
+        command: order.call.command,
+        aspect: order.call.aspect,
+        beside: beside.items(),
+    };
+    match answer_text(alloc, &Limits::large(), &question, &view, files) {
         Ok(Answer { status, text }) => Reply {
             status,
             place: place_of(order.manner),
@@ -170,18 +160,47 @@ fn text_reply(alloc: Global, order: Order, files: &mut [Bytes]) -> Reply
     }
 }
 
-/// The reply to a call, of the first bytes of its files.
+/// Whether mintc's own answer is asked for.
+fn is_own(order: &Order) -> bool
+    ensures { result ≡ is_own order.now }
+{
+    let is_schedule = matches!(order.call.aspect, Aspect::Schedule(_));
+    matches!(order.manner.format, Format::Plain) && !is_schedule
+}
+
+/// The answer to a call in its form, of the first bytes of its files.
 fn answer_of(alloc: Global, order: Order, files: &mut [Bytes]) -> Reply
     requires count { length files.old ≡ length (roles_of order.call.command) }
     requires names { length order.call.files ≡ length (roles_of order.call.command) }
     requires in_range { IsNumberInRange order.call.command }
-    requires worded { IsWorded order }
+    requires on_files { IsOnFiles order.call.command }
     ensures reply { IsAnswerReply order files.old result }
     ensures status { IsOfReply result.status }
 {
-    match order.manner.format {
-        Format::Plain => plain_reply(alloc, order, files),
-        Format::Text | Format::Json | Format::Csv => text_reply(alloc, order, files),
+    if is_own(&order) {
+        plain_reply(alloc, order, files)
+    } else {
+        text_reply(alloc, order, files)
+    }
+}
+
+/// The reply to a call, of the first bytes of its files; those of a library are described first.
+fn fronts_reply(alloc: Global, order: Order, files: &mut [Bytes]) -> Reply
+    requires count { length files.old ≡ length (roles_of order.call.command) }
+    requires names { length order.call.files ≡ length (roles_of order.call.command) }
+    requires in_range { IsNumberInRange order.call.command }
+    requires on_files { IsOnFiles order.call.command }
+    requires library { order.call.of_library ≡ true → 1 < length order.call.files }
+    ensures reply { IsFrontsReply order files.old result }
+    ensures status { IsOfReply result.status }
+{
+    if order.call.of_library {
+        match describe(alloc, files) {
+            Ok(()) => answer_of(alloc, order, files),
+            Err(reply) => reply,
+        }
+    } else {
+        answer_of(alloc, order, files)
     }
 }
 
@@ -190,7 +209,8 @@ fn order_for<S: Shelf>(alloc: Global, given: Given, shelf: &mut S) -> Result<Ord
     ensures value { IfOk result (IsOrdered given (S.files shelf.old)) }
     ensures count { IfOk result (λ order. length order.call.files ≡ length (roles_of order.call.command)) }
     ensures in_range { IfOk result (λ order. IsNumberInRange order.call.command) }
-    ensures worded { IfOk result IsWorded }
+    ensures on_files { IfOk result (λ order. IsOnFiles order.call.command) }
+    ensures library { IfOk result (λ order. order.call.of_library ≡ true → 1 < length order.call.files) }
     ensures reply { IfErr result (IsEarlyReply given (S.files shelf.old)) }
     ensures no_fault { IfErr result (λ reply. reply.status ≢ Status.WriteFault) }
     ensures same { S.files shelf.new ≡ S.files shelf.old }
@@ -208,7 +228,8 @@ fn order_for<S: Shelf>(alloc: Global, given: Given, shelf: &mut S) -> Result<Ord
 fn call_reply<S: Shelf>(alloc: Global, order: Order, shelf: &mut S) -> Reply
     requires count { length order.call.files ≡ length (roles_of order.call.command) }
     requires in_range { IsNumberInRange order.call.command }
-    requires worded { IsWorded order }
+    requires on_files { IsOnFiles order.call.command }
+    requires library { order.call.of_library ≡ true → 1 < length order.call.files }
     ensures reply { IsCallReply (S.files shelf.old) order result }
     ensures no_fault { result.status ≢ Status.WriteFault }
     ensures same { S.files shelf.new ≡ S.files shelf.old }
@@ -217,7 +238,7 @@ fn call_reply<S: Shelf>(alloc: Global, order: Order, shelf: &mut S) -> Reply
     ensures reads { MakesAtMost (length order.call.files) (S.calls shelf.old) (S.calls shelf.new) }
 {
     match read_files(alloc, shelf, order.call.files.items()) {
-        Ok(mut files) => answer_of(alloc, order, files.as_mut_slice()),
+        Ok(mut files) => fronts_reply(alloc, order, files.as_mut_slice()),
         Err(reply) => reply,
     }
 }

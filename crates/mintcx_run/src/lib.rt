@@ -12,6 +12,7 @@
 mod adapters;
 mod calling;
 mod folder;
+mod libraries;
 mod program;
 mod projects;
 mod reading;

@@ -162,12 +162,89 @@ decided by a chain of 2 constraints that takes 80 fs in 1 cycle:
 times in fs
 ||";
 
-/// What is said where a command has no text for people.
-const NO_TEXT: &str =
-    "3||error: this command has no text for people yet; '--format plain' gives that of mintc\n|";
+/// The verdict on its certificate.
+const VALID: &str =
+    "0|valid  cycle 100 fs is the least of all right schedules of two.table, and this schedule is right  \
+     (two.cert)\n||";
+
+/// The optimum of the table, gate by gate.
+const REPORT: &str = "0|least  cycle 100 fs, 10.000 THz  (two.table)
+
+  phase  starts  ends  width
+  phi1        0    10     10
+  phi2       10    40     30
+
+decided by a chain of 2 constraints that takes 100 fs in 1 cycle:
+
+  cycle  delay  time  at
+      1            0  a  latch on phi1, open from 0 to 10
+            10    10    D -> Q
+            20    30    to b
+      1           30  b  latch on phi2, open from 10 to 40, borrows 20
+            10    40    D -> Q
+            60   100    to a
+      2          100  a again, 1 cycle on
+
+1 latch of 2 borrows:
+
+  borrows  element  on
+       20  b        latch on phi2
+
+times in fs
+||";
+
+/// The schedule of the least cycle time of the table.
+const TOLD_SCHEDULE: &str = "0|schedule 1
+den 1
+cycle 100
+phases 2
+phase 0 10
+phase 10 30
+end
+||";
+
+/// The optimum of the files at two corners, which are the same.
+const JOINT: &str = "0|least  cycle 100 fs, 10.000 THz  (two, 2 corners)
+
+  corner  delays   cycle alone
+       1  two.sdf          100
+       2  two.sdf          100
+
+  phase  starts  ends  width
+  p1          0    10     10
+  p2         10    40     30
+
+decided by a chain of 2 constraints that takes 100 fs in 1 cycle:
+
+  corner  from     delay  to       through
+       2  u1.l[0]     30  u2.l[0]  b
+       2  u2.l[0]     70  u1.l[0]  b
+
+times in fs
+||";
+
+/// The same with a library.
+const JOINT_OF_LIBRARY: &str = "0|least  cycle 80 fs, 12.500 THz  (two, 2 corners)
+
+  corner  delays   cycle alone
+       1  two.sdf           80
+       2  two.sdf           80
+
+  phase  starts  ends  width
+  p1          0     0      0
+  p2          0    20     20
+
+decided by a chain of 2 constraints that takes 80 fs in 1 cycle:
+
+  corner  from     delay  to       through
+       2  u1.l[0]     20  u2.l[0]  b
+       2  u2.l[0]     60  u1.l[0]  b
+
+times in fs
+||";
 
 /// A project file of a table.
-const PROJECT: &str = "[design]\ntable = \"two.table\"\n";
+pub(crate) const PROJECT: &str = "[design]\ntable = \"two.table\"\n";
 
 /// A table with its schedule and its certificate.
 const TABLE: Rows = Rows {
@@ -225,11 +302,15 @@ const TABLE: Rows = Rows {
         ),
         ("mintcx --version", "0|mintcx 0.1.0\n||"),
         ("mintcx optimise", LEAST),
-        ("mintcx report", NO_TEXT),
+        ("mintcx report", REPORT),
         ("mintcx safe", SAFE),
         ("mintcx slack", SLACK),
         ("mintcx slack --histogram", BARS),
-        ("mintcx verify two.cert", NO_TEXT),
+        ("mintcx verify two.cert", VALID),
+        ("mintcx schedule", TOLD_SCHEDULE),
+        ("mintcx schedule --format plain", TOLD_SCHEDULE),
+        ("mintcx schedule two.cert", TOLD_SCHEDULE),
+        ("mintcx schedule --cycle 80fs", SHORT),
         ("mintcx check two.schedule", PASS),
         ("mintcx check fast.schedule", FAIL),
     ],
@@ -255,7 +336,15 @@ const FILES: Rows = Rows {
         ),
         (
             "mintcx corners --netlist two.v --sdf two.sdf --sdf two.sdf --cells two.toml --clock clock.toml",
-            NO_TEXT,
+            JOINT,
+        ),
+        (
+            "mintcx corners --netlist two.v --sdf two.sdf --sdf two.sdf --lib two.lib --clock clock.toml",
+            JOINT_OF_LIBRARY,
+        ),
+        (
+            "mintcx corners --netlist two.v --sdf two.sdf --sdf two.sdf --lib two.v --clock clock.toml",
+            "2||error[1]: refused 1 cells 0\n|",
         ),
         (
             "mintcx optimise --netlist two.v --sdf two.sdf --lib two.lib --clock-cell X --clock clock.toml",

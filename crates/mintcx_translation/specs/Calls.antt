@@ -48,6 +48,7 @@ design_files for_corners (design.Files netlist delays kind clock) = if for_corne
 abbrev pub own_file : Task → Option Text
 own_file (task.Check schedule) = Some schedule
 own_file (task.Verify certificate) = Some certificate
+own_file (task.Schedule certificate cycle) = certificate
 own_file what = None
 
 -- the task is about several delay files
@@ -66,6 +67,11 @@ abbrev pub optimum_of : Option Text → Result Job Gap
 optimum_of (Some certificate) = Err gap.Certificate
 optimum_of None = Ok job.Optimise
 
+-- a schedule is that of a certificate, or of an optimum
+abbrev pub schedule_job : Option Text → Job
+schedule_job (Some certificate) = job.Verify
+schedule_job None = job.Optimise
+
 -- the job of a task on one design
 abbrev pub job_of : Task → Result Job Gap
 job_of (task.Check schedule) = Ok job.Check
@@ -75,7 +81,7 @@ job_of task.Report = Ok job.Report
 job_of task.Safe = Ok job.Safe
 job_of (task.Slack histogram) = Ok job.Slack
 job_of task.Corners = Err gap.Misfit
-job_of (task.Schedule certificate cycle) = Err gap.Schedule
+job_of (task.Schedule certificate cycle) = Ok (schedule_job certificate)
 job_of (task.Sdc file) = Err gap.Sdc
 job_of (task.Draw file histogram) = Err gap.Draw
 
@@ -83,6 +89,7 @@ job_of (task.Draw file histogram) = Err gap.Draw
 abbrev pub aspect_of : Task → Aspect
 aspect_of (task.Optimise certificate (Some cycle)) = aspect.Cycle cycle
 aspect_of (task.Slack true) = aspect.Histogram
+aspect_of (task.Schedule certificate cycle) = aspect.Schedule cycle
 aspect_of what = aspect.Whole
 
 -- the source of a design with these cells
@@ -95,12 +102,20 @@ abbrev pub job_on : Job → Design → Result Command Gap
 job_on work (design.Table table) = Ok (OfDesign work source.Table)
 job_on work (design.Files netlist delays kind clock) = and_then (source_of kind) (λ from. Ok (OfDesign work from))
 
--- the command of so many corners, with cells that are described
+-- the command of so many corners
+abbrev pub corners_with : ℕ → Result Command Gap
+corners_with count = if nat_le 2 count && nat_le count 4 then Ok (Corners count) else Err gap.Misfit
+
+-- the command of a design with several delay files
 abbrev pub corners_on : Design → Result Command Gap
 corners_on (design.Table table) = Err gap.Misfit
-corners_on (design.Files netlist delays (cells.Description file) clock) =
-    if nat_le 2 (length delays) && nat_le (length delays) 4 then Ok (Corners (length delays)) else Err gap.Misfit
-corners_on (design.Files netlist delays (cells.Library file gates) clock) = Err gap.CornersOfLibrary
+corners_on (design.Files netlist delays kind clock) =
+    and_then (source_of kind) (λ from. corners_with (length delays))
+
+-- the cells of corners are those of a library
+abbrev pub of_library : Command → Design → Bool
+of_library (Corners count) (design.Files netlist delays (cells.Library file gates) clock) = true
+of_library command files = false
 
 -- the command of a task on a design
 abbrev pub command_for : Task → Design → Result Command Gap
@@ -115,11 +130,12 @@ is_fitting (Corners corners) count = (nat_le 2 corners && nat_le corners 4) && (
 
 -- ---- the call
 
--- what mintc has no text for
+-- what mintc has no text for; a schedule has one text alone, in mintc's form
 abbrev pub plain_gap : Aspect → Option Gap
 plain_gap aspect.Whole = None
 plain_gap (aspect.Cycle cycle) = Some gap.Cycle
 plain_gap aspect.Histogram = Some gap.Histogram
+plain_gap (aspect.Schedule cycle) = None
 
 -- a form that is not there yet, or a clamp of delays
 abbrev pub form_of : Format → Bool → Aspect → Option Gap
@@ -138,6 +154,7 @@ call_on (Some missing) what files = Err missing
 call_on None what files = and_then (command_for what files) (λ command. fitting (record {
   command = command;
   aspect = aspect_of what;
+  of_library = of_library command files;
   files = files_of what files;
 }))
 

@@ -1,11 +1,10 @@
 //! What a request asks of mintc.
-ghost use Rattle.std.specs.Prelude.{◌≡◌, ◌≢◌, ◌++◌, ◌∷◌, [], ℕ, length, IfOk, IfErr, Ok};
+ghost use Rattle.std.specs.Prelude.{◌≡◌, ◌≢◌, ◌<◌, ◌++◌, ◌∷◌, [], ℕ, true, length, IfOk, IfErr, Ok};
 ghost use Rattle.mintc_command_answers.specs.Commands.{IsNumberInRange, roles_of};
-ghost use Rattle.mintcx_translation.specs.Calls.{IsNoCall, aspect_of, call_for, cells_file, command_for, corners_on};
-ghost use Rattle.mintcx_translation.specs.Calls.{design_files};
-ghost use Rattle.mintcx_translation.specs.Calls.{files_of, form_of, is_corners, is_fitting, job_of, job_on, own_file};
-ghost use Rattle.mintcx_translation.specs.Calls.{plain_gap};
-ghost use Rattle.mintcx_translation.specs.Calls.{source_of};
+ghost use Rattle.mintcx_translation.specs.Calls.{IsNoCall, aspect_of, call_for, cells_file, command_for};
+ghost use Rattle.mintcx_translation.specs.Calls.{corners_on, design_files};
+ghost use Rattle.mintcx_translation.specs.Calls.{files_of, form_of, is_corners, is_fitting, job_of, job_on, of_library};
+ghost use Rattle.mintcx_translation.specs.Calls.{own_file, plain_gap, source_of};
 
 use mintc_command_answers::{Command, Job, Source};
 use mintc_text::{Name, Names, OutOfMemory};
@@ -22,13 +21,18 @@ pub enum Aspect {
     Cycle(u32),
     /// Of `slack`: the pairs counted by their slack.
     Histogram,
+    /// The schedule, as `check` takes it: of `optimise` that of the least cycle time, or of another one in
+    /// femtoseconds; of `verify` that of the certificate.
+    Schedule(Option<u32>),
 }
 
-/// A command of mintc, what of it is told, and the names of its files, in their order.
+/// A command of mintc, what of it is told, and the names of its files, in their order. Where `of_library` is set, the
+/// file of the cells of `corners` is a Liberty library, and the command is asked of its description.
 #[derive(Debug, Drop)]
 pub struct Call {
     pub command: Command,
     pub aspect: Aspect,
+    pub of_library: bool,
     pub files: Names,
 }
 
@@ -36,7 +40,6 @@ pub struct Call {
 #[derive(Clone, Copy, Debug, PartialEq, Eq)]
 pub enum Gap {
     Explain,
-    Schedule,
     Sdc,
     Draw,
     /// The form of the answer.
@@ -51,12 +54,8 @@ pub enum Gap {
     Certificate,
     /// Gates of a library that carry the clock alone.
     ClockCells,
-    /// Several delay files with a library.
-    CornersOfLibrary,
     /// mintc's own text of pairs counted by their slack.
     Histogram,
-    /// A text for people that answers the command.
-    ForPeople,
     /// The files aren't as many as the command takes; no request of words has it.
     Misfit,
 }
@@ -170,6 +169,7 @@ fn own_file(task: Task) -> Option<Name>
     match task {
         Task::Check { schedule } => Some(schedule),
         Task::Verify { certificate } => Some(certificate),
+        Task::Schedule { certificate, .. } => certificate,
         _ => None,
     }
 }
@@ -205,7 +205,14 @@ fn job_of(task: &Task) -> Result<Job, Gap>
         Task::Safe => Ok(Job::Safe),
         Task::Slack { .. } => Ok(Job::Slack),
         Task::Corners => Err(Gap::Misfit),
-        Task::Schedule { .. } => Err(Gap::Schedule),
+        Task::Schedule {
+            certificate: Some(_),
+            ..
+        } => Ok(Job::Verify),
+        Task::Schedule {
+            certificate: None,
+            ..
+        } => Ok(Job::Optimise),
         Task::Sdc { .. } => Err(Gap::Sdc),
         Task::Draw { .. } => Err(Gap::Draw),
     }
@@ -221,6 +228,7 @@ fn aspect_of(task: &Task) -> Aspect
             ..
         } => Aspect::Cycle(*cycle),
         Task::Slack { histogram: true } => Aspect::Histogram,
+        Task::Schedule { cycle, .. } => Aspect::Schedule(*cycle),
         _ => Aspect::Whole,
     }
 }
@@ -259,9 +267,7 @@ fn corners_on(design: &Design) -> Result<Command, Gap>
     let Design::Files { delays, cells, .. } = design else {
         return Err(Gap::Misfit);
     };
-    if let Cells::Library { .. } = cells {
-        return Err(Gap::CornersOfLibrary);
-    }
+    source_of(cells)?;
     let count = delays.items().len();
     if 2 <= count && count <= 4 {
         Ok(Command::Corners {
@@ -269,6 +275,22 @@ fn corners_on(design: &Design) -> Result<Command, Gap>
         })
     } else {
         Err(Gap::Misfit)
+    }
+}
+
+/// Whether the cells of corners are those of a library.
+fn of_library(command: Command, design: &Design) -> bool
+    ensures { result ≡ of_library command design.now }
+{
+    match (command, design) {
+        (
+            Command::Corners { .. },
+            Design::Files {
+                cells: Cells::Library { .. },
+                ..
+            },
+        ) => true,
+        _ => false,
     }
 }
 
@@ -301,7 +323,7 @@ fn plain_gap(aspect: Aspect) -> Option<Gap>
     ensures { result ≡ plain_gap aspect }
 {
     match aspect {
-        Aspect::Whole => None,
+        Aspect::Whole | Aspect::Schedule(_) => None,
         Aspect::Cycle(_) => Some(Gap::Cycle),
         Aspect::Histogram => Some(Gap::Histogram),
     }
@@ -339,17 +361,20 @@ pub fn call_of(
     ensures count { IfOk result (λ call. length call.files ≡ length (roles_of call.command)) }
     ensures in_range { IfOk result (λ call. IsNumberInRange call.command) }
     ensures files { IfOk result (λ call. (number : ℕ) → call.command ≢ Command.Sample number) }
+    ensures library { IfOk result (λ call. call.of_library ≡ true → 1 < length call.files) }
 {
     let aspect = aspect_of(&task);
     if let Some(gap) = form_of(format, clamp, aspect) {
         return Err(NoCall::Missing(gap));
     }
     let command = command_for(&task, &design)?;
+    let of_library = of_library(command, &design);
     let files = files_of(alloc, task, design)?;
     if is_fitting(command, files.items().len()) {
         Ok(Call {
             command,
             aspect,
+            of_library,
             files,
         })
     } else {

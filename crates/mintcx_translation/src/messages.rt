@@ -9,7 +9,6 @@ impl Gap {
     fn text(self) -> &'static str {
         match self {
             Gap::Explain => "'explain' isn't there yet; docs/refusals.md explains each refusal",
-            Gap::Schedule => "'schedule' isn't there yet; 'optimise --format plain' has a schedule",
             Gap::Sdc => "'sdc' isn't there yet",
             Gap::Draw => "'draw' isn't there yet",
             Gap::Json => "'--format json' isn't there yet; text and plain are",
@@ -21,13 +20,7 @@ impl Gap {
             }
             Gap::ClockCells =>
                 "'--clock-cell' isn't there yet; liberty2toml writes cells to be edited",
-            Gap::CornersOfLibrary => {
-                "corners of a library aren't there yet; liberty2toml writes its cells for '--cells'"
-            }
             Gap::Histogram => "'--histogram' has no plain form; '--format text' has one",
-            Gap::ForPeople => {
-                "this command has no text for people yet; '--format plain' gives that of mintc"
-            }
             Gap::Misfit => "the files aren't as many as the command takes",
         }
     }

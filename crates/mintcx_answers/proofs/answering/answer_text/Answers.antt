@@ -1,21 +1,19 @@
-use Rattle.mintcx_answers.proofs.AnsweringLaws.{answered, in_range, of_command, refused_length, stopped}
+use Rattle.mintc_command_answers.specs.declared.command.Command.TheVariants.{Corners, OfDesign}
+use Rattle.mintcx_answers.proofs.AnsweringLaws.{answered, of_command, refused_length, stopped}
 use Rattle.mintcx_answers.proofs.answering.answer_text.Goals as goal
-
-pub roles-requires : goal.roles-requires
-roles-requires c = in_range c.args.command c.requires.worded
 
 pub returns-in-Some-clause-stop : goal.returns-in-Some-clause-stop
 returns-in-Some-clause-stop c =
-    refused_length c.args.limits.now c.args.command c.args.files.now c.roles.result.now c.in-Some.refusal c.requires.worded c.roles.ensures c.in-Some.ensures
+    refused_length c.args.limits.now c.args.question.now.command c.args.files.now c.roles.result.now c.in-Some.refusal c.requires.on_files c.roles.ensures c.in-Some.ensures
 
-pub returns : goal.returns
-returns c =
-    let job = c.in-OfDesign.job in
-    let source = c.in-OfDesign.source in
+pub returns-in-Corners : goal.returns-in-Corners
+returns-in-Corners c =
+    let asked = c.args.question.now in
+    let own = Corners c.in-Corners.count in
     let texts = c.args.files.now in
-    let told = c.design_text.ensures in
+    let told = c.corners_answer.ensures in
     record {
-      value = answered c.args.limits.now c.design_text.result c.args.command job c.args.aspect source texts c.args.view.now c.in-OfDesign.is c.in_default.ensures told.value;
-      of_command = of_command c.args.limits.now c.design_text.result job c.args.aspect source texts c.args.view.now told.value;
-      stop = stopped c.args.limits.now c.design_text.result c.args.command job source texts c.in-OfDesign.is c.in_default.ensures told.stop;
+      value = answered c.args.limits.now c.corners_answer.result asked.command own asked.aspect asked.beside.now texts c.args.view.now c.in-Corners.is c.in_default.ensures (told.value asked.aspect);
+      of_command = of_command c.args.limits.now c.corners_answer.result own asked.aspect asked.beside.now texts c.args.view.now (told.value asked.aspect);
+      stop = stopped c.args.limits.now c.corners_answer.result asked.command own texts c.in-Corners.is c.requires.on_files c.in_default.ensures told.stop;
     }

@@ -9,14 +9,14 @@ returns-in_err-system c =
     let p = err_from_is_err_and c.from_residual.result c.from_residual.ensures.1 in
     record {
       value = rw p.1 tt;
-      stop = rw (p.1, p.2) (stop_on_source c.args.limits.now c.args.question.job c.args.source c.args.texts.now c.in_err-system.field-0.0 c.in_err-system.ensures.stop);
+      stop = rw (p.1, p.2) (stop_on_source c.args.limits.now c.args.work.now.job c.args.source c.args.texts.now c.in_err-system.field-0.0 c.in_err-system.ensures.stop);
     }
 
 pub returns : goal.returns
 returns c =
     let same = c.own_file-file.ensures.value ∙ c.in_ok-system.ensures.own in
     record {
-      value = answer_on_file c.args.limits.now c.job_text.result c.args.question.job c.args.question.aspect c.args.source c.args.texts.now c.in_ok-system.system c.own_file-file.result.now c.args.view.now c.in_ok-system.ensures.value same
+      value = answer_on_file c.args.limits.now c.job_text.result c.args.work.now.job c.args.work.now.aspect c.args.work.now.beside.now c.args.source c.args.texts.now c.in_ok-system.system c.own_file-file.result.now c.args.view.now c.in_ok-system.ensures.value same
           c.job_text.ensures.value;
-      stop = stop_on_file c.args.limits.now c.job_text.result c.args.question.job c.args.source c.args.texts.now c.in_ok-system.system c.own_file-file.result.now c.in_ok-system.ensures.value same c.job_text.ensures.stop;
+      stop = stop_on_file c.args.limits.now c.job_text.result c.args.work.now.job c.args.source c.args.texts.now c.in_ok-system.system c.own_file-file.result.now c.in_ok-system.ensures.value same c.job_text.ensures.stop;
     }

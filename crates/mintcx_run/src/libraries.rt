@@ -1,0 +1,43 @@
+//! Corners of a library, which are those of the description of its cells.
+ghost use Rattle.std.specs.Prelude.{◌≡◌, ◌≤◌, ◌<◌, length, IfErr, IfOk};
+ghost use Rattle.mintc_command_answers.specs.Sources.{file_at};
+ghost use Rattle.mintc_text.specs.Stops.{StopsAt};
+ghost use Rattle.mintcx_run.specs.Replies.{AreDescribed, IsDescriptionOf, IsLibraryRefusal, IsLibraryReply, IsOfReply};
+
+use crate::refusals::refused;
+use crate::reply::Reply;
+use liberty2toml_command::toml_form;
+use mintc_liberty::read_liberty;
+use mintc_text::limits::MOST_BYTES;
+use mintc_text::{Bytes, Refusal, Role, Stop};
+use std::alloc::Global;
+
+/// The description of the cells of a library, or why its text is refused.
+fn description_of(alloc: Global, text: &[u8]) -> Result<Bytes, Stop>
+    ensures value { IfOk result (IsDescriptionOf text.now) }
+    ensures stop { IfErr result (StopsAt (IsLibraryRefusal text.now)) }
+{
+    if text.len() > MOST_BYTES {
+        return Err(Stop::Refused(Refusal::TooLong { role: Role::Cells }));
+    }
+    let cells = read_liberty(alloc, text)?;
+    Ok(Bytes::new(toml_form(alloc, &cells)?))
+}
+
+/// Puts the description of its cells in the place of a library, which is the second of the files of corners.
+pub(crate) fn describe(alloc: Global, files: &mut [Bytes]) -> Result<(), Reply>
+    requires { 1 < length files.old }
+    ensures value { IfOk result (λ done. AreDescribed files.old files.new) }
+    ensures count { length files.new ≡ length files.old }
+    ensures reply { IfErr result (IsLibraryReply files.old) }
+    ensures status { IfErr result (λ reply. IsOfReply reply.status) }
+{
+    match description_of(alloc, files[1].items()) {
+        Ok(form) => {
+            files[1] = form;
+            Ok(())
+        }
+        Err(Stop::Refused(refusal)) => Err(refused(alloc, &refusal)),
+        Err(Stop::OutOfMemory) => Err(Reply::out_of_memory(alloc)),
+    }
+}
