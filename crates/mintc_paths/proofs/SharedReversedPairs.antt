@@ -39,7 +39,7 @@ AreApart-permutation xs ys moved h =
 
 module _ (n : ℕ) (few : n ≤ MOST_ELEMENTS) (elements places : List ℕ) (back : LeadsBack n elements places) (pairs : List Pair)
     (inside : All (λ (p : Pair). (p.from < n) × (p.to < n)) pairs) (ascending : AllAdjacentBelow ComesBefore pairs (length pairs)) where
-  key_rises : (p q : Pair) → p.to < 32768 → ComesBefore p q → key_of p < key_of q
+  key_rises : (p q : Pair) → p.to < MOST_ELEMENTS → ComesBefore p q → key_of p < key_of q
   key_rises p q low h = grind arith
 
   -- keys rise along the list
@@ -71,7 +71,7 @@ ascends n few pairs inside apart sorted k d below =
     λ e. apart k (k + 1) 0 (omega arith) (omega (arith, length-map pairs key_of)) (get_or-map key_of pairs k d 0 low ∙ e ∙ sym (get_or-map key_of pairs (k + 1) d 0 below)) in
     comes (get_or pairs k d) (get_or pairs (k + 1) d) (omega (arith, inside k d low)) (omega (arith, inside (k + 1) d below)) (omega (arith, sorted k (k + 1) d (omega arith) below))
   where
-    comes : (p q : Pair) → p.to < 32768 → q.to < 32768 → key_of p < key_of q → ComesBefore p q
+    comes : (p q : Pair) → p.to < MOST_ELEMENTS → q.to < MOST_ELEMENTS → key_of p < key_of q → ComesBefore p q
     comes p q in_p in_q order = grind arith
 
 -- Each list has an order by keys.

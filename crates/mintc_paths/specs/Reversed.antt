@@ -3,6 +3,7 @@ use Rattle.std.specs.Prelude.{◌==◌, ◌+◌, ◌-◌, ◌*◌, ◌/◌, ◌%
 use Rattle.mintc_timing.specs.declared.parts.TimingArc.{TimingArc}
 use Rattle.mintc_timing.specs.declared.parts.Pair.{Pair}
 use Rattle.mintc_timing.specs.Design.{Design}
+use Rattle.mintc_text.specs.declared.limits.TheConstants.{MOST_ELEMENTS}
 use Rattle.mintc_paths_sums.specs.Placed.{row_of}
 
 -- Where a bit goes: of n elements, an output becomes the input of its element, and an input the output at its element's
@@ -43,4 +44,4 @@ pair_back elements pair = record { from = pair.to; to = row_of elements pair.fro
 
 -- by what pairs are ordered: the first element, then the second
 abbrev pub key_of : Pair → ℕ
-key_of pair = 32768 * pair.from + pair.to
+key_of pair = MOST_ELEMENTS * pair.from + pair.to

@@ -12,7 +12,7 @@ use crate::blocks::{Plan, find_along};
 use crate::found::Found;
 use crate::reversed::{element_order, reversed_sequence};
 use crate::rows::{ArcSequence, Rows};
-use mintc_text::OutOfMemory;
+use mintc_text::{MOST_ELEMENTS, OutOfMemory};
 use mintc_timing::{Flat, Order, Pair};
 use std::alloc::Global;
 
@@ -20,7 +20,7 @@ use std::alloc::Global;
 fn key_of(pair: &Pair) -> u64
     ensures { result ≡ key_of pair.now }
 {
-    32768 * pair.from as u64 + pair.to as u64
+    MOST_ELEMENTS as u64 * pair.from as u64 + pair.to as u64
 }
 
 /// Turns each pair back.

@@ -1,4 +1,4 @@
 pub mod SharedPlaced
 pub mod SharedNoSums
 -- Lemmas by topic.
-mod Holding
+mod Give

@@ -46,7 +46,7 @@ fn slot_of(numbers: &[u32], base: u32, row: usize) -> usize
 }
 
 /// Gives the next place to a row that has none.
-#[tactic(auto, using(crate::proofs::Holding::given_kept, crate::proofs::Holding::given_own, crate::proofs::Holding::AreHeld_given))]
+#[tactic(auto, using(crate::proofs::Give::given_kept, crate::proofs::Give::given_own, crate::proofs::Give::AreHeld_given))]
 fn give(
     numbers: &mut Vec<u32>,
     base: u32,
@@ -147,7 +147,7 @@ fn led_on(others: &Sums, arc: TimingArc) -> Sums
 
 impl SparseRows {
     /// No sums in so many rows.
-    #[tactic(auto, using(crate::proofs::Holding::all_zero, crate::proofs::Holding::AreHeld_none))]
+    #[tactic(auto, using(crate::proofs::Give::all_zero, crate::proofs::Give::AreHeld_none))]
     pub fn new(alloc: Global, rows: usize) -> Result<SparseRows, AllocError>
         ensures count { IfOk result (λ held. length held ≡ rows) }
         ensures none { IfOk result (λ held. (row : ℕ) → row < rows → sums_at held row ≡ NO_SUMS) }

@@ -32,13 +32,17 @@ grid_of nodes = pos (2 * nodes * nodes)
 abbrev pub top_of : ℕ → ℤ
 top_of nodes = pos (4000000000 * nodes * nodes * nodes)
 
+-- how many nodes a list may have at most that a search settles in few tests
+abbrev pub short_nodes : ℕ
+short_nodes = 2017
+
 -- how often a search may halve what lies below the top, and how many tests it takes at most: few more for a list of
 -- more nodes than 2,000 elements and 8 phases have
 abbrev pub most_halvings : ℕ → ℕ
-most_halvings nodes = if nat_lt 2017 nodes then 75 else 65
+most_halvings nodes = if nat_lt short_nodes nodes then 75 else 65
 
 abbrev pub most_tests : ℕ → ℕ
-most_tests nodes = if nat_lt 2017 nodes then 78 else 68
+most_tests nodes = if nat_lt short_nodes nodes then 78 else 68
 
 -- No chain with a cycle forbids the cycle time of so many parts of the grid.
 abbrev pub IsHigh : Constraints → ℤ → Type 0

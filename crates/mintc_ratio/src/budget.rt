@@ -4,6 +4,16 @@ ghost use Rattle.std.specs.Bool.{OnFalse, OnTrue};
 ghost use Rattle.mintc_constraints.specs.Ordinary.{most_nodes};
 ghost use Rattle.mintc_ratio.specs.Climbing.{most_tests};
 
+/// How many nodes a list may have at most that a search settles in few tests: more than 2,000 elements and 8 phases
+/// have.
+const SHORT_NODES: u32 = 2017;
+
+/// How many tests a search takes at most over so many nodes.
+const SHORT_TESTS: u64 = 68;
+
+/// How many tests a search takes at most over any list.
+const MOST_TESTS: u64 = 78;
+
 /// How often a range can be halved before it is one part of the grid.
 fn halvings(width: u128) -> u32
     requires { width ≤ 2 ^ 80 }
@@ -22,7 +32,11 @@ fn halvings(width: u128) -> u32
 fn most_tests(nodes: u32) -> u64
     ensures { result ≡ most_tests nodes }
 {
-    if nodes > 2017 { 78 } else { 68 }
+    if nodes > SHORT_NODES {
+        MOST_TESTS
+    } else {
+        SHORT_TESTS
+    }
 }
 
 /// How many passes were taken since the counter said `begun`, or more.

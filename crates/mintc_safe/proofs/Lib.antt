@@ -1,7 +1,7 @@
 mod HoldLaws
 mod SafeLaws
 mod PassLaws
-mod ListingLaws
+mod Turns
 mod StandingLaws
 mod BareLaws
 mod CertificateLaws

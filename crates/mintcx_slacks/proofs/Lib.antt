@@ -1,3 +1,3 @@
 mod PlaceLaws
 mod RestLaws
-mod StepLaws
+mod Steps

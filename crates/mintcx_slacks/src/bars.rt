@@ -45,7 +45,7 @@ fn lead(number: u32) -> u64
 }
 
 /// The femtoseconds of a step: 1, 2, 5, 10, ..
-#[tactic(auto, using(crate::proofs::StepLaws::few_zeros, crate::proofs::StepLaws::step_few, crate::proofs::StepLaws::step_some))]
+#[tactic(auto, using(crate::proofs::Steps::few_zeros, crate::proofs::Steps::step_few, crate::proofs::Steps::step_some))]
 fn step_at(number: u32) -> u64
     requires { number < 54 }
     ensures value { result ≡ step_at number }
@@ -95,7 +95,7 @@ fn is_of(slack: i64, step: u64, number: u64) -> bool
 }
 
 /// How many slacks are of a bar.
-#[tactic(auto, using(crate::proofs::StepLaws::count_more))]
+#[tactic(auto, using(crate::proofs::Steps::count_more))]
 pub(crate) fn count(extra: &[i64], step: u64, number: u64) -> usize
     requires some { 1 ≤ step }
     ensures value { result ≡ count_of step extra.now number }

@@ -39,7 +39,7 @@ fn end_cell(alloc: Global, unit: Unit, end: u64) -> Result<Name, OutOfMemory>
 }
 
 /// What a bar is called.
-#[tactic(auto, using(crate::proofs::StepLaws::no_bar, crate::proofs::StepLaws::some_bar))]
+#[tactic(auto, using(crate::proofs::Steps::no_bar, crate::proofs::Steps::some_bar))]
 fn bar_name(alloc: Global, unit: Unit, step: Step, number: u64) -> Result<Name, OutOfMemory>
     requires step { step.femtoseconds ≤ 10 ^ 18 }
     requires number { number ≤ 12 }
@@ -79,7 +79,7 @@ fn bar_head(alloc: Global) -> Result<Names, OutOfMemory>
 }
 
 /// How many slacks the fullest bar has, and at least 1.
-#[tactic(auto, using(crate::proofs::StepLaws::most_more))]
+#[tactic(auto, using(crate::proofs::Steps::most_more))]
 fn fullest(extra: &[i64], step: Step, last: u64) -> usize
     requires some { 1 ≤ step.femtoseconds }
     requires few { last ≤ 12 }
@@ -142,7 +142,7 @@ fn rows_table(
 }
 
 /// The histogram of slacks at a least cycle, by steps of this size.
-#[tactic(auto, using(crate::proofs::StepLaws::twelve_bars))]
+#[tactic(auto, using(crate::proofs::Steps::twelve_bars))]
 fn steps_text(
     alloc: Global,
     cycle: &Fraction,

@@ -1,7 +1,7 @@
 use Rattle.std.proofs.Common.{◌≡◌, ℕ, max, ap, ◌∙◌, sym, arith}
 use Rattle.std.specs.List.{fold, range_with_len}
 use Rattle.mintcx_slacks.specs.Histograms.{count_of}
-use Rattle.mintcx_slacks.proofs.StepLaws.{most_more}
+use Rattle.mintcx_slacks.proofs.Steps.{most_more}
 use Rattle.mintcx_slacks.proofs.histogram.fullest.Goals as goal
 
 pub loop-number-preserved : goal.loop-number-preserved

@@ -2,7 +2,7 @@ use Rattle.std.proofs.Common.{◌∙◌, ap}
 use Rattle.mintc_lanes.specs.Lanes.{lane_at}
 use Rattle.mintc_paths_sums.specs.declared.sums.Sums.{Sums}
 use Rattle.mintc_paths_sums.specs.SparseRows.{places_of}
-use Rattle.mintc_paths_sums.proofs.Holding.{Holds, Holds-given, put_own, put_others, read_at}
+use Rattle.mintc_paths_sums.proofs.Give.{Holds, Holds-given, put_own, put_others, read_at}
 use Rattle.mintc_paths_sums.proofs.sparse_rows.SparseRows.begin.Goals as goal
 use Rattle.mintc_paths_sums.proofs.sparse_rows.SparseRows.begin.Goals.{In_ok-place}
 

@@ -2,7 +2,7 @@ use Rattle.std.proofs.Common.{◌≡◌, ◌∙◌, ℕ, List, arith, refl, ap}
 use Rattle.mintc_paths_sums.specs.declared.sums.TheConstants.{NO_SUMS}
 use Rattle.mintc_paths_sums.specs.SparseRows.{place_at, places_of}
 use Rattle.mintc_paths_sums.specs.Sums.{sums_at}
-use Rattle.mintc_paths_sums.proofs.Holding.{Holds, Holds-given, read_at, held_none, joined_at}
+use Rattle.mintc_paths_sums.proofs.Give.{Holds, Holds-given, read_at, held_none, joined_at}
 use Rattle.mintc_paths_sums.proofs.sparse_rows.SparseRows.join.Goals as goal
 use Rattle.mintc_paths_sums.proofs.sparse_rows.SparseRows.join.Goals.{After-slot_of-place, After-index-2}
 

@@ -1,6 +1,6 @@
 use Rattle.std.proofs.Common.{◌<◌, rules, subst, sym}
 use Rattle.mintc_paths_sums.specs.SparseRows.{places_of}
-use Rattle.mintc_paths_sums.proofs.Holding.{placed_none, all_zero, length-places}
+use Rattle.mintc_paths_sums.proofs.Give.{placed_none, all_zero, length-places}
 use Rattle.mintc_paths_sums.proofs.sparse_rows.SparseRows.new.Goals as goal
 
 pub returns-clause-none : goal.returns-clause-none

@@ -3,7 +3,7 @@ use Rattle.mintc_paths_sums.specs.declared.sums.TheConstants.{NO_SUMS}
 use Rattle.mintc_paths_sums.specs.SparseRows.{place_at, places_of}
 use Rattle.mintc_paths_sums.specs.Sums.{sums_at}
 use Rattle.mintc_paths_sums.proofs.SharedPlaced.{length-placed}
-use Rattle.mintc_paths_sums.proofs.Holding.{placed_none, AreHeld_none, none_above, first_alone}
+use Rattle.mintc_paths_sums.proofs.Give.{placed_none, AreHeld_none, none_above, first_alone}
 use Rattle.mintc_paths_sums.proofs.sparse_rows.SparseRows.raise.Goals as goal
 use Rattle.mintc_paths_sums.proofs.sparse_rows.SparseRows.raise.Goals.{After-len}
 
