@@ -12,7 +12,8 @@ use crate::blocks::{Plan, find_along};
 use crate::found::Found;
 use crate::reversed::{element_order, reversed_sequence};
 use crate::rows::{ArcSequence, Rows};
-use mintc_text::{MOST_ELEMENTS, OutOfMemory};
+use mintc_text::OutOfMemory;
+use mintc_text::limits::MOST_ELEMENTS;
 use mintc_timing::{Flat, Order, Pair};
 use std::alloc::Global;
 
