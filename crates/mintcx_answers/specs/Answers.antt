@@ -15,6 +15,7 @@ use Rattle.mintc_timing_text.specs.LineForms.{schedule_text_lines}
 use Rattle.mintc_certificate.specs.CertificateText.{IsCertificateText}
 use Rattle.mintc_certificate.specs.declared.certificate.Certificate.{Certificate}
 use Rattle.mintc_certificate.specs.declared.certificate.Certificate.TheVariants as certificate
+use Rattle.mintc_certificate.specs.Written.{lines_of}
 use Rattle.mintc_checker.specs.Verdicts.{IsVerdict}
 use Rattle.mintc_checker.specs.declared.verdict.Verdict.{Verdict}
 use Rattle.mintc_checker.specs.declared.verdict.Verdict.TheVariants as verdict
@@ -32,6 +33,7 @@ use Rattle.mintc_command_answers.specs.declared.command.Command.{Command}
 use Rattle.mintc_command_answers.specs.declared.command.Command.TheVariants.{OfDesign, Sample, Corners}
 use Rattle.mintc_command_answers.specs.declared.command.Job.{Job}
 use Rattle.mintc_command_answers.specs.declared.command.Job.TheVariants.{Check, Optimise, Verify, Report, Safe, Slack}
+use Rattle.mintc_command_answers.specs.declared.command.Source.{Source}
 use Rattle.mintc_command_answers.specs.declared.status.Status.{Status}
 use Rattle.mintc_command_answers.specs.declared.status.Status.TheVariants.{Done, Found}
 use Rattle.mintcx_frame.specs.declared.view.View.{View}
@@ -85,6 +87,11 @@ IsCheckAnswer t file view status text = (s : Schedule) × IsScheduleOf file (pha
 abbrev pub IsOptimumAnswer : Timing → View → Status → List ℕ → Type 0
 IsOptimumAnswer t view status text = (c : Certificate) × IsOptimum t c × (status ≡ certificate_status c)
     × IsOptimumText t.flat c view text
+
+-- An optimum with its certificate: the text of an optimum, and that very optimum as `verify` takes it.
+abbrev pub IsCertifiedAnswer : Timing → View → Status → List ℕ → List ℕ → Type 0
+IsCertifiedAnswer t view status text written = (c : Certificate) × IsOptimum t c × (status ≡ certificate_status c)
+    × IsOptimumText t.flat c view text × (written ≡ text_of (lines_of c))
 
 -- how a run ends that has found this at a cycle time: that it is too short is found
 abbrev pub cycle_status : AtCycle → Status
@@ -231,3 +238,9 @@ AreNamed command beside = Unit {0}
 abbrev pub HasAnswer : Most → Command → Aspect → List (List ℕ) → List (List ℕ) → View → Status → List ℕ → Type 0
 HasAnswer most command told beside files view status text = AreShort most files
     × IsContentAnswer most command told beside files view status text
+
+-- The answer for people to `optimise` on the bytes of its files, of which none is refused: the status, the text of what
+-- is found, shown in this view, and the text of its certificate.
+abbrev pub HasCertificate : Most → Source → List (List ℕ) → View → Status → List ℕ → List ℕ → Type 0
+HasCertificate most from files view status text written = AreShort most files
+    × ((t : Timing) × Gives most from files t × IsCertifiedAnswer t view status text written)

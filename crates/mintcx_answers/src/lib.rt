@@ -6,6 +6,7 @@
 #![tactic(auto)]
 
 mod answering;
+mod certificates;
 mod corners;
 mod jobs;
 mod reports;
@@ -14,4 +15,5 @@ mod subjects;
 mod verdicts;
 
 pub use answering::{Question, answer_text};
+pub use certificates::{Certified, certified_text};
 pub use subjects::{names_beside, subject_of};

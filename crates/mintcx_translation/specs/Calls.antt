@@ -60,12 +60,12 @@ is_corners what = false
 abbrev pub files_of : Task → Design → List Text
 files_of what files = design_files (is_corners what) files ++ option_to_list (own_file what)
 
--- ---- the command
+-- the file that a certificate is written to, where there is one
+abbrev pub certificate_file : Task → Option Text
+certificate_file (task.Optimise certificate cycle) = certificate
+certificate_file what = None
 
--- a cycle time is asked for, with no file for its certificate
-abbrev pub optimum_of : Option Text → Result Job Gap
-optimum_of (Some certificate) = Err gap.Certificate
-optimum_of None = Ok job.Optimise
+-- ---- the command
 
 -- a schedule is that of a certificate, or of an optimum
 abbrev pub schedule_job : Option Text → Job
@@ -75,7 +75,7 @@ schedule_job None = job.Optimise
 -- the job of a task on one design
 abbrev pub job_of : Task → Result Job Gap
 job_of (task.Check schedule) = Ok job.Check
-job_of (task.Optimise certificate cycle) = optimum_of certificate
+job_of (task.Optimise certificate cycle) = Ok job.Optimise
 job_of (task.Verify certificate) = Ok job.Verify
 job_of task.Report = Ok job.Report
 job_of task.Safe = Ok job.Safe
@@ -130,21 +130,28 @@ is_fitting (Corners corners) count = (nat_le 2 corners && nat_le corners 4) && (
 
 -- ---- the call
 
--- what mintc has no text for; a schedule has one text alone, in mintc's form
-abbrev pub plain_gap : Aspect → Option Gap
-plain_gap aspect.Whole = None
-plain_gap (aspect.Cycle cycle) = Some gap.Cycle
-plain_gap aspect.Histogram = Some gap.Histogram
-plain_gap (aspect.Schedule cycle) = None
+-- a certificate is written to a file
+abbrev pub is_certified : Task → Bool
+is_certified (task.Optimise (Some name) cycle) = true
+is_certified what = false
+
+-- what mintc has no text for, and a certificate beside its text, which is one; a schedule has one text alone, in
+-- mintc's form
+abbrev pub plain_gap : Bool → Aspect → Option Gap
+plain_gap true told = Some gap.Certificate
+plain_gap false aspect.Whole = None
+plain_gap false (aspect.Cycle cycle) = Some gap.Cycle
+plain_gap false aspect.Histogram = Some gap.Histogram
+plain_gap false (aspect.Schedule cycle) = None
 
 -- a form that is not there yet, or a clamp of delays
-abbrev pub form_of : Format → Bool → Aspect → Option Gap
-form_of format.Json clamp told = Some gap.Json
-form_of format.Csv clamp told = Some gap.Csv
-form_of format.Text clamp told = if clamp then Some gap.Clamp else None
-form_of format.Plain clamp told = if clamp then Some gap.Clamp else plain_gap told
+abbrev pub form_of : Format → Bool → Bool → Aspect → Option Gap
+form_of format.Json clamp certified told = Some gap.Json
+form_of format.Csv clamp certified told = Some gap.Csv
+form_of format.Text clamp certified told = if clamp then Some gap.Clamp else None
+form_of format.Plain clamp certified told = if clamp then Some gap.Clamp else plain_gap certified told
 
--- a command with the names of its files, where these are as many as it takes
+-- a call whose files are as many as its command takes
 abbrev pub fitting : Call → Result Call Gap
 fitting call = if is_fitting call.command (length call.files) then Ok call else Err gap.Misfit
 
@@ -156,11 +163,12 @@ call_on None what files = and_then (command_for what files) (λ command. fitting
   aspect = aspect_of what;
   of_library = of_library command files;
   files = files_of what files;
+  certificate = certificate_file what;
 }))
 
 -- what is asked of mintc, or what of it is not there yet
 abbrev pub call_for : Format → Bool → Task → Design → Result Call Gap
-call_for form clamp what files = call_on (form_of form clamp (aspect_of what)) what files
+call_for form clamp what files = call_on (form_of form clamp (is_certified what) (aspect_of what)) what files
 
 -- why a task on a design is no call
 abbrev pub IsNoCall : Result Call Gap → NoCall → Type 0

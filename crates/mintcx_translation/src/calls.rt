@@ -1,9 +1,9 @@
 //! What a request asks of mintc.
-ghost use Rattle.std.specs.Prelude.{◌≡◌, ◌≢◌, ◌<◌, ◌++◌, ◌∷◌, [], ℕ, true, length, IfOk, IfErr, Ok};
+ghost use Rattle.std.specs.Prelude.{◌≡◌, ◌≢◌, ◌<◌, ◌++◌, ◌∷◌, [], ℕ, true, length, option_to_list, IfOk, IfErr, Ok};
 ghost use Rattle.mintc_command_answers.specs.Commands.{IsNumberInRange, roles_of};
-ghost use Rattle.mintcx_translation.specs.Calls.{IsNoCall, aspect_of, call_for, cells_file, command_for};
-ghost use Rattle.mintcx_translation.specs.Calls.{corners_on, design_files};
-ghost use Rattle.mintcx_translation.specs.Calls.{files_of, form_of, is_corners, is_fitting, job_of, job_on, of_library};
+ghost use Rattle.mintcx_translation.specs.Calls.{IsNoCall, aspect_of, call_for, cells_file, certificate_file};
+ghost use Rattle.mintcx_translation.specs.Calls.{command_for, corners_on, design_files, is_certified};
+ghost use Rattle.mintcx_translation.specs.Calls.{form_of, is_corners, is_fitting, job_of, job_on, of_library};
 ghost use Rattle.mintcx_translation.specs.Calls.{own_file, plain_gap, source_of};
 
 use mintc_command_answers::{Command, Job, Source};
@@ -27,13 +27,15 @@ pub enum Aspect {
 }
 
 /// A command of mintc, what of it is told, and the names of its files, in their order. Where `of_library` is set, the
-/// file of the cells of `corners` is a Liberty library, and the command is asked of its description.
+/// file of the cells of `corners` is a Liberty library, and the command is asked of its description. With `certificate`,
+/// the certificate of `optimise` is written to a file of this name.
 #[derive(Debug, Drop)]
 pub struct Call {
     pub command: Command,
     pub aspect: Aspect,
     pub of_library: bool,
     pub files: Names,
+    pub certificate: Option<Name>,
 }
 
 /// What of a request is not there yet.
@@ -50,7 +52,7 @@ pub enum Gap {
     Clamp,
     /// mintc's own text of a cycle time other than the least.
     Cycle,
-    /// A file for the certificate.
+    /// A file for a certificate beside mintc's own text, which is the certificate.
     Certificate,
     /// Gates of a library that carry the clock alone.
     ClockCells,
@@ -162,25 +164,41 @@ fn is_corners(task: &Task) -> bool
     matches!(task, Task::Corners)
 }
 
-/// The file that stands beside the design's.
-fn own_file(task: Task) -> Option<Name>
-    ensures { result ≡ own_file task }
-{
-    match task {
-        Task::Check { schedule } => Some(schedule),
-        Task::Verify { certificate } => Some(certificate),
-        Task::Schedule { certificate, .. } => certificate,
-        _ => None,
-    }
+/// The files of a task beside the design's.
+#[derive(Drop)]
+struct Beside {
+    /// One that is read with the design's.
+    own: Option<Name>,
+    /// One that a certificate is written to.
+    certificate: Option<Name>,
 }
 
-/// All files of a task on a design, in mintc's order.
-fn files_of(alloc: Global, task: Task, design: Design) -> Result<Names, OutOfMemory>
-    ensures { IfOk result (λ files. files ≡ files_of task design) }
+/// The files of a task beside the design's.
+fn beside_of(task: Task) -> Beside
+    ensures own { result.own ≡ own_file task }
+    ensures certificate { result.certificate ≡ certificate_file task }
 {
-    let for_corners = is_corners(&task);
+    let (own, certificate) = match task {
+        Task::Check { schedule } => (Some(schedule), None),
+        Task::Optimise { certificate, .. } => (None, certificate),
+        Task::Verify { certificate } => (Some(certificate), None),
+        Task::Schedule { certificate, .. } => (certificate, None),
+        _ => (None, None),
+    };
+    Beside { own, certificate }
+}
+
+/// All files that are read for a task on a design, in mintc's order.
+fn files_of(
+    alloc: Global,
+    for_corners: bool,
+    own: Option<Name>,
+    design: Design,
+) -> Result<Names, OutOfMemory>
+    ensures { IfOk result (λ files. files ≡ design_files for_corners design ++ option_to_list own) }
+{
     let mut files = design_files(alloc, for_corners, design)?;
-    if let Some(own) = own_file(task) {
+    if let Some(own) = own {
         files.push(own)?;
     }
     Ok(Names::new(files))
@@ -192,14 +210,7 @@ fn job_of(task: &Task) -> Result<Job, Gap>
 {
     match task {
         Task::Check { .. } => Ok(Job::Check),
-        Task::Optimise {
-            certificate: Some(_),
-            ..
-        } => Err(Gap::Certificate),
-        Task::Optimise {
-            certificate: None,
-            ..
-        } => Ok(Job::Optimise),
+        Task::Optimise { .. } => Ok(Job::Optimise),
         Task::Verify { .. } => Ok(Job::Verify),
         Task::Report => Ok(Job::Report),
         Task::Safe => Ok(Job::Safe),
@@ -318,10 +329,23 @@ fn is_fitting(command: Command, count: usize) -> bool
     }
 }
 
-/// What of an answer mintc has no text for.
-fn plain_gap(aspect: Aspect) -> Option<Gap>
-    ensures { result ≡ plain_gap aspect }
+/// Whether a certificate is written to a file.
+fn is_certified(task: &Task) -> bool
+    ensures { result ≡ is_certified task.now }
 {
+    match task {
+        Task::Optimise { certificate, .. } => certificate.is_some(),
+        _ => false,
+    }
+}
+
+/// What of an answer mintc has no text for.
+fn plain_gap(certified: bool, aspect: Aspect) -> Option<Gap>
+    ensures { result ≡ plain_gap certified aspect }
+{
+    if certified {
+        return Some(Gap::Certificate);
+    }
     match aspect {
         Aspect::Whole | Aspect::Schedule(_) => None,
         Aspect::Cycle(_) => Some(Gap::Cycle),
@@ -330,8 +354,8 @@ fn plain_gap(aspect: Aspect) -> Option<Gap>
 }
 
 /// What of a form isn't there yet.
-fn form_of(format: Format, clamp: bool, aspect: Aspect) -> Option<Gap>
-    ensures { result ≡ form_of format clamp aspect }
+fn form_of(format: Format, clamp: bool, certified: bool, aspect: Aspect) -> Option<Gap>
+    ensures { result ≡ form_of format clamp certified aspect }
 {
     match format {
         Format::Json => Some(Gap::Json),
@@ -341,7 +365,7 @@ fn form_of(format: Format, clamp: bool, aspect: Aspect) -> Option<Gap>
             if clamp {
                 Some(Gap::Clamp)
             } else {
-                plain_gap(aspect)
+                plain_gap(certified, aspect)
             }
         }
     }
@@ -364,18 +388,21 @@ pub fn call_of(
     ensures library { IfOk result (λ call. call.of_library ≡ true → 1 < length call.files) }
 {
     let aspect = aspect_of(&task);
-    if let Some(gap) = form_of(format, clamp, aspect) {
+    if let Some(gap) = form_of(format, clamp, is_certified(&task), aspect) {
         return Err(NoCall::Missing(gap));
     }
     let command = command_for(&task, &design)?;
     let of_library = of_library(command, &design);
-    let files = files_of(alloc, task, design)?;
+    let for_corners = is_corners(&task);
+    let beside = beside_of(task);
+    let files = files_of(alloc, for_corners, beside.own, design)?;
     if is_fitting(command, files.items().len()) {
         Ok(Call {
             command,
             aspect,
             of_library,
             files,
+            certificate: beside.certificate,
         })
     } else {
         Err(NoCall::Missing(Gap::Misfit))

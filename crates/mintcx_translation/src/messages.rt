@@ -16,7 +16,7 @@ impl Gap {
             Gap::Clamp => "'--clamp-negative' isn't there yet",
             Gap::Cycle => "'--cycle' has no plain form; '--format text' has one",
             Gap::Certificate => {
-                "'--certificate' isn't there yet; 'optimise --format plain -o FILE' writes the certificate"
+                "'--certificate' has no plain form, which is the certificate; '-o FILE' writes it"
             }
             Gap::ClockCells =>
                 "'--clock-cell' isn't there yet; liberty2toml writes cells to be edited",
