@@ -5,16 +5,18 @@ use Rattle.mintc_text.specs.declared.limits.TheConstants.{MOST_BYTES}
 use Rattle.mintc_text.specs.Outside.{Files}
 use Rattle.mintc_command.specs.Answers.{AreFronts, MakesAtMost}
 use Rattle.mintc_command.proofs.SharedCalls.{MakesAtMost-none, MakesAtMost-sum}
-use Rattle.mintc_command_answers.specs.declared.status.Status.TheVariants.{Usage}
+use Rattle.mintc_text.specs.declared.refusals.Refusal.{Refusal}
+use Rattle.mintc_command_answers.specs.declared.status.Status.TheVariants.{Refused, Usage}
 use Rattle.mintcx_requests.specs.Requests.{Text, request_of}
 use Rattle.mintcx_requests.specs.declared.given.Given.{Given}
 use Rattle.mintcx_requests.specs.declared.requests.Request.{Request}
 use Rattle.mintcx_requests.specs.declared.requests.Request.TheVariants as request
 use Rattle.mintcx_project.specs.declared.project.Settings.{Settings}
 use Rattle.mintcx_translation.specs.declared.calls.Gap.TheVariants as gap
-use Rattle.mintcx_run.specs.declared.calling.Order.{Order}
+use Rattle.mintcx_run.specs.declared.answers.Told.{Told}
+use Rattle.mintcx_run.specs.declared.orders.Order.{Order}
 use Rattle.mintcx_run.specs.declared.reply.Reply.{Reply}
-use Rattle.mintcx_run.specs.Replies.{AreUnread, IsCallReply, IsEarlyReply, IsFrontsReply, IsGapReply, IsGiven, IsGivenReply, IsMessage, IsOrderOf, IsOrdered, IsReply, IsSettings, IsUnread, IsWordsReply}
+use Rattle.mintcx_run.specs.Replies.{AreUnread, IsCallReply, IsEarlyReply, IsFrontsAnswer, IsFrontsRefusal, IsGapReply, IsGiven, IsGivenReply, IsMessage, IsOrdered, IsPlaced, IsReply, IsSettings, IsUnread, IsWordsReply}
 
 -- an explanation isn't there yet
 pub explain_gap : (asked : Request) (topic : Text) (reply : Reply) → asked ≡ request.Explain topic → IsMessage Usage reply → IsGapReply asked reply
@@ -32,10 +34,14 @@ early_gap (Err reply) given files settings asked said is h = inr (settings, said
 pub unread_one : (names : List Text) (n : ℕ) (name : Text) (reply : Reply) → n < length names → name ≡ get_or names n name → IsUnread name reply → AreUnread names reply
 unread_one names n name reply below is h = inr (name, subst (λ (x : Text). Contains names x) (sym is) (Contains-get_or names n name below), h)
 
--- the answer to a call, of files that are read
-pub call_answered : (files : Option Files) (order : Order) (fronts : List Text) (reply : Reply) → AreFronts files (MOST_BYTES + 1) order.call.files fronts → IsFrontsReply order fronts reply →
-    IsCallReply files order reply
-call_answered files order fronts reply are h = inr (fronts, are, h)
+-- the reply to a call, of files that are read: its answer, why there is none, or that memory was wanting
+pub call_told : (files : Option Files) (order : Order) (fronts : List Text) (told : Told) (reply : Reply) → AreFronts files (MOST_BYTES + 1) order.call.files fronts → IsFrontsAnswer order fronts told →
+    IsPlaced order told reply → IsCallReply files order reply
+call_told files order fronts told reply are h placed = inr (fronts, are, inr (inl (told, h, placed)))
+
+pub call_refused : (files : Option Files) (order : Order) (fronts : List Text) (refused : Refusal) (reply : Reply) → AreFronts files (MOST_BYTES + 1) order.call.files fronts → IsFrontsRefusal order fronts refused →
+    IsMessage Refused reply → IsCallReply files order reply
+call_refused files order fronts refused reply are h said = inr (fronts, are, inr (inr (refused, h, said)))
 
 -- with one read for the project file, and one for each file
 pub given_answered : (given : Given) (files : Option Files) (order : Order) (reply : Reply) (a b c : Option ℕ) → IsOrdered given files order → IsCallReply files order reply →

@@ -1,10 +1,11 @@
 -- What a run leaves of its reply.
-use Rattle.std.specs.Prelude.{◌≡◌, ◌⊎◌, Option}
+use Rattle.std.specs.Prelude.{◌≡◌, ◌⊎◌, Option, Some, None}
 use Rattle.mintc_text.specs.Outside.{Files, Takes, TakesFront}
 use Rattle.mintc_command_answers.specs.declared.status.Status.{Status}
 use Rattle.mintc_command_answers.specs.declared.status.Status.TheVariants.{WriteFault}
 use Rattle.mintcx_requests.specs.Requests.{Text}
 use Rattle.mintcx_run.specs.Folders.{Makes}
+use Rattle.mintcx_run.specs.declared.reply.Beside.{Beside}
 use Rattle.mintcx_run.specs.declared.reply.Place.{Place}
 use Rattle.mintcx_run.specs.declared.reply.Place.TheVariants as place
 use Rattle.mintcx_run.specs.declared.reply.Reply.{Reply}
@@ -40,7 +41,19 @@ IsAt (place.File name) reply status out errors made = IsMade reply.status name r
 IsAt place.Errors reply status out errors made = (status ≡ reply.status) × IsStill out × IsStill made
 IsAt place.Nowhere reply status out errors made = (status ≡ reply.status) × IsStill out × IsStill errors × IsStill made
 
--- What a run leaves that has this reply, of the two sinks and of the files that are made: its text is where it goes,
--- and nothing is elsewhere.
+-- the file beside a text is made, where there is one
+abbrev pub IsMadeBeside : Option Beside → Option Files → Option Files → Type 0
+IsMadeBeside None before now = now ≡ before
+IsMadeBeside (Some file) before now = Makes before now file.name file.text
+
+-- there is a file beside the text that couldn't be made, and nothing is written
+abbrev pub IsLost : Reply → Status → Sent (Option Text) → Sent (Option Text) → Type 0
+IsLost reply status out errors = ((file : Beside) × (reply.beside ≡ Some file)) × (status ≡ WriteFault) × IsStill out
+    × IsStill errors
+
+-- What a run leaves that has this reply, of the two sinks and of the files that are made: the file beside its text is
+-- made, its text is where it goes, and nothing is elsewhere; or that file couldn't be made.
 abbrev pub IsDelivered : Reply → Status → Sent (Option Text) → Sent (Option Text) → Sent (Option Files) → Type 0
-IsDelivered reply status out errors made = IsAt reply.place reply status out errors made
+IsDelivered reply status out errors made = IsLost reply status out errors
+    ⊎ ((between : Option Files) × IsMadeBeside reply.beside made.was between
+    × IsAt reply.place reply status out errors (sent between made.became))

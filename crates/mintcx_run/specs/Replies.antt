@@ -14,6 +14,10 @@ use Rattle.mintc_liberty.specs.Meaning.{liberty_cells}
 use Rattle.mintc_command.specs.Answers.{AreFronts}
 use Rattle.mintc_command_answers.specs.Answers.{IsDefined, IsFirstRefusal, IsOfCommand}
 use Rattle.mintc_command_answers.specs.Sources.{file_at}
+use Rattle.mintc_command_answers.specs.declared.command.Command.{Command}
+use Rattle.mintc_command_answers.specs.declared.command.Command.TheVariants.{OfDesign}
+use Rattle.mintc_command_answers.specs.declared.command.Job.TheVariants.{Optimise}
+use Rattle.mintc_command_answers.specs.declared.command.Source.{Source}
 use Rattle.mintc_command_answers.specs.declared.status.Status.{Status}
 use Rattle.mintc_command_answers.specs.declared.status.Status.TheVariants.{Done, Refused, Usage, ReadFault}
 use Rattle.mintc_command_answers.specs.declared.status.Status.TheVariants.{OutOfMemory}
@@ -39,9 +43,11 @@ use Rattle.mintcx_words.specs.CommandLine.{IsProgram}
 use Rattle.mintcx_words.specs.Misread.{IsReading}
 use Rattle.mintcx_words.specs.declared.words.Misread.{Misread}
 use Rattle.mintcx_words.specs.declared.words.Misread.TheVariants as misread
-use Rattle.mintcx_answers.specs.Answers.{HasAnswer}
+use Rattle.mintcx_answers.specs.Answers.{HasAnswer, HasCertificate}
 use Rattle.mintcx_frame.specs.declared.view.View.{View}
-use Rattle.mintcx_run.specs.declared.calling.Order.{Order}
+use Rattle.mintcx_run.specs.declared.answers.Told.{Told}
+use Rattle.mintcx_run.specs.declared.orders.Order.{Order}
+use Rattle.mintcx_run.specs.declared.reply.Beside.{Beside}
 use Rattle.mintcx_run.specs.declared.reply.Place.{Place}
 use Rattle.mintcx_run.specs.declared.reply.Place.TheVariants as place
 use Rattle.mintcx_run.specs.declared.reply.Reply.{Reply}
@@ -50,16 +56,17 @@ use Rattle.mintcx_run.specs.declared.reply.Reply.{Reply}
 
 -- memory was wanting, and nothing is written
 abbrev pub IsOutOfMemory : Reply → Type 0
-IsOutOfMemory reply = (reply.status ≡ OutOfMemory) × (reply.place ≡ place.Nowhere)
+IsOutOfMemory reply = (reply.status ≡ OutOfMemory) × (reply.place ≡ place.Nowhere) × (reply.beside ≡ None)
 
--- this text, or memory was wanting
+-- this text, and no file beside it, or memory was wanting
 abbrev pub IsSaying : Status → Place → Text → Reply → Type 0
-IsSaying status to text reply =
-    ((reply.status ≡ status) × ((reply.place ≡ to) × (reply.text ≡ text))) ⊎ IsOutOfMemory reply
+IsSaying status to text reply = ((reply.status ≡ status) × (reply.place ≡ to) × (reply.text ≡ text)
+    × (reply.beside ≡ None)) ⊎ IsOutOfMemory reply
 
--- a message with this status for the second sink, or memory was wanting
+-- a message with this status for the second sink, and no file beside it, or memory was wanting
 abbrev pub IsMessage : Status → Reply → Type 0
-IsMessage status reply = ((reply.status ≡ status) × (reply.place ≡ place.Errors)) ⊎ IsOutOfMemory reply
+IsMessage status reply = ((reply.status ≡ status) × (reply.place ≡ place.Errors) × (reply.beside ≡ None))
+    ⊎ IsOutOfMemory reply
 
 -- ---- the words
 
@@ -142,10 +149,6 @@ IsFaultyReply given settings reply = (why : Fault) × (request_of given settings
 
 -- ---- the answer
 
--- a status of answers and their refusals, or memory was wanting
-abbrev pub IsOfReply : Status → Type 0
-IsOfReply status = IsOfCommand status ⊎ (status ≡ OutOfMemory)
-
 -- the place of a file's name, or the first sink
 abbrev pub place_for : Option Text → Place
 place_for None = place.Output
@@ -155,30 +158,54 @@ place_for (Some name) = place.File name
 abbrev pub place_of : Manner → Place
 place_of manner = if manner.quiet then place.Nowhere else place_for manner.output
 
--- the plain answer to a call, of the first bytes of its files: mintc's own, at the largest limits
-pub record IsPlain (order : Order) (fronts : List Text) (reply : Reply) : Type 0 where
-  pub defined : IsDefined large order.call.command fronts reply.status reply.text
-  pub of_command : IsOfCommand reply.status
-  pub placed : reply.place ≡ place_of order.manner
+-- the file of a certificate
+abbrev pub beside_of : Option Text → Option Text → Option Beside
+beside_of (Some name) (Some text) = Some (record { name = name; text = text })
+beside_of name certificate = None
 
--- that, or memory was wanting
-abbrev pub IsPlainReply : Order → List Text → Reply → Type 0
-IsPlainReply order fronts reply = IsOutOfMemory reply ⊎ IsPlain order fronts reply
+-- the reply that tells an answer, where its order wants it
+pub record IsPlaced (order : Order) (told : Told) (reply : Reply) : Type 0 where
+  pub status : reply.status ≡ told.status
+  pub place : reply.place ≡ place_of order.manner
+  pub text : reply.text ≡ told.text
+  pub beside : reply.beside ≡ beside_of order.call.certificate told.certificate
+
+-- the plain answer to a call, of the first bytes of its files: mintc's own, at the largest limits
+pub record IsPlain (order : Order) (fronts : List Text) (told : Told) : Type 0 where
+  pub defined : IsDefined large order.call.command fronts told.status told.text
+  pub of_command : IsOfCommand told.status
+  pub alone : told.certificate ≡ None
+
+-- the source of the design whose optimum a command is about, where its certificate goes to a file
+abbrev pub certified_of : Command → Option Text → Option Source
+certified_of (OfDesign Optimise from) (Some name) = Some from
+certified_of command name = None
+
+abbrev pub certified_source : Call → Option Source
+certified_source call = certified_of call.command call.certificate
+
+-- an optimum for people, with its certificate
+abbrev pub IsCertified : Source → List Text → View → Told → Type 0
+IsCertified from fronts view told = (written : Text) × (told.certificate ≡ Some written)
+    × HasCertificate large from fronts view told.status told.text written
+
+-- an answer for people, with no certificate
+abbrev pub IsLone : Order → List Text → View → Told → Type 0
+IsLone order fronts view told = (told.certificate ≡ None) × ((beside : List Text)
+    × HasAnswer large order.call.command order.call.aspect beside fronts view told.status told.text)
+
+-- with its certificate, or without
+abbrev pub IsShown : Option Source → Order → List Text → View → Told → Type 0
+IsShown (Some from) order fronts view told = IsCertified from fronts view told
+IsShown None order fronts view told = IsLone order fronts view told
 
 -- the answer to a call for people, in the unit and with the rows that are asked
-pub record IsForPeople (order : Order) (fronts : List Text) (reply : Reply) : Type 0 where
+pub record IsForPeople (order : Order) (fronts : List Text) (told : Told) : Type 0 where
   pub view : View
-  pub beside : List Text
   pub unit : view.unit ≡ order.manner.unit
   pub limit : view.limit ≡ order.manner.limit
-  pub answered : HasAnswer large order.call.command order.call.aspect beside fronts view reply.status reply.text
-  pub of_command : IsOfCommand reply.status
-  pub placed : reply.place ≡ place_of order.manner
-
--- that; or mintc's first refusal, as a message; or memory was wanting
-abbrev pub IsTextReply : Order → List Text → Reply → Type 0
-IsTextReply order fronts reply = IsOutOfMemory reply ⊎ (IsForPeople order fronts reply
-    ⊎ ((refused : Refusal) × IsFirstRefusal large order.call.command fronts refused × IsMessage Refused reply))
+  pub shown : IsShown (certified_source order.call) order fronts view told
+  pub of_command : IsOfCommand told.status
 
 -- the form is mintc's
 abbrev pub is_plain : Format → Bool
@@ -195,9 +222,13 @@ abbrev pub is_own : Order → Bool
 is_own order = is_plain order.manner.format && not (is_schedule order.call.aspect)
 
 -- the answer in its form
-abbrev pub IsAnswerReply : Order → List Text → Reply → Type 0
-IsAnswerReply order fronts reply = ((is_own order ≡ true) × IsPlainReply order fronts reply)
-    ⊎ ((is_own order ≡ false) × IsTextReply order fronts reply)
+abbrev pub IsAnswered : Order → List Text → Told → Type 0
+IsAnswered order fronts told = ((is_own order ≡ true) × IsPlain order fronts told)
+    ⊎ ((is_own order ≡ false) × IsForPeople order fronts told)
+
+-- there is none in the form for people: mintc's first refusal
+abbrev pub IsRefused : Order → List Text → Refusal → Type 0
+IsRefused order fronts refused = (is_own order ≡ false) × IsFirstRefusal large order.call.command fronts refused
 
 -- ---- corners of a library
 
@@ -209,27 +240,39 @@ IsDescriptionOf library text =
 -- Why a library's text is refused: it is too long, or out of form.
 abbrev pub IsLibraryRefusal : Text → Refusal → Type 0
 IsLibraryRefusal library refused = ((MOST_BYTES < length library) × (refused ≡ refusal.TooLong role.Cells))
-    ⊎ ((length library ≤ MOST_BYTES) × (n : ℕ) × (liberty_cells library ≡ Err n) × (refused ≡ refusal.Syntax role.Cells n))
+    ⊎ ((length library ≤ MOST_BYTES) × (n : ℕ) × (liberty_cells library ≡ Err n)
+    × (refused ≡ refusal.Syntax role.Cells n))
 
 -- The second file is a library, and a description of its very cells is put in its place.
 abbrev pub AreDescribed : List Text → List Text → Type 0
 AreDescribed fronts described =
     (text : Text) × IsDescriptionOf (file_at fronts 1) text × (described ≡ slice_set fronts 1 text)
 
--- the library is too long or out of form, and it is said; or memory was wanting
-abbrev pub IsLibraryReply : List Text → Reply → Type 0
-IsLibraryReply fronts reply = IsOutOfMemory reply
-    ⊎ ((refused : Refusal) × IsLibraryRefusal (file_at fronts 1) refused × IsMessage Refused reply)
-
 -- the answer with the cells of a library, which is that with their description
-abbrev pub IsReplyOfLibrary : Order → List Text → Reply → Type 0
-IsReplyOfLibrary order fronts reply = IsLibraryReply fronts reply
-    ⊎ ((described : List Text) × AreDescribed fronts described × IsAnswerReply order described reply)
+abbrev pub IsAnswerOfLibrary : Order → List Text → Told → Type 0
+IsAnswerOfLibrary order fronts told =
+    (described : List Text) × AreDescribed fronts described × IsAnswered order described told
+
+-- there is none: the library is refused, or the files with its description are
+abbrev pub IsRefusalOfLibrary : Order → List Text → Refusal → Type 0
+IsRefusalOfLibrary order fronts refused = IsLibraryRefusal (file_at fronts 1) refused
+    ⊎ ((described : List Text) × AreDescribed fronts described × IsRefused order described refused)
 
 -- the answer to a call, of the first bytes of its files
+abbrev pub IsFrontsAnswer : Order → List Text → Told → Type 0
+IsFrontsAnswer order fronts told = ((order.call.of_library ≡ false) × IsAnswered order fronts told)
+    ⊎ ((order.call.of_library ≡ true) × IsAnswerOfLibrary order fronts told)
+
+-- why there is none, in the form for people
+abbrev pub IsFrontsRefusal : Order → List Text → Refusal → Type 0
+IsFrontsRefusal order fronts refused = ((order.call.of_library ≡ false) × IsRefused order fronts refused)
+    ⊎ ((order.call.of_library ≡ true) × IsRefusalOfLibrary order fronts refused)
+
+-- the answer, where its order wants it; or why there is none, as a message; or memory was wanting
 abbrev pub IsFrontsReply : Order → List Text → Reply → Type 0
-IsFrontsReply order fronts reply = ((order.call.of_library ≡ false) × IsAnswerReply order fronts reply)
-    ⊎ ((order.call.of_library ≡ true) × IsReplyOfLibrary order fronts reply)
+IsFrontsReply order fronts reply = IsOutOfMemory reply
+    ⊎ (((told : Told) × IsFrontsAnswer order fronts told × IsPlaced order told reply)
+    ⊎ ((refused : Refusal) × IsFrontsRefusal order fronts refused × IsMessage Refused reply))
 
 -- The reply to a call of mintc over the files of a shelf: a file can't be read, or the answer in its form, of the first
 -- bytes of the files, one more than a file may have.

@@ -2,10 +2,8 @@
 ghost use Rattle.std.specs.Prelude.{◌≡◌, ◌≤◌, ◌<◌, length, IfErr, IfOk};
 ghost use Rattle.mintc_command_answers.specs.Sources.{file_at};
 ghost use Rattle.mintc_text.specs.Stops.{StopsAt};
-ghost use Rattle.mintcx_run.specs.Replies.{AreDescribed, IsDescriptionOf, IsLibraryRefusal, IsLibraryReply, IsOfReply};
+ghost use Rattle.mintcx_run.specs.Replies.{AreDescribed, IsDescriptionOf, IsLibraryRefusal};
 
-use crate::refusals::refused;
-use crate::reply::Reply;
 use liberty2toml_command::toml_form;
 use mintc_liberty::read_liberty;
 use mintc_text::limits::MOST_BYTES;
@@ -25,19 +23,12 @@ fn description_of(alloc: Global, text: &[u8]) -> Result<Bytes, Stop>
 }
 
 /// Puts the description of its cells in the place of a library, which is the second of the files of corners.
-pub(crate) fn describe(alloc: Global, files: &mut [Bytes]) -> Result<(), Reply>
+pub(crate) fn describe(alloc: Global, files: &mut [Bytes]) -> Result<(), Stop>
     requires { 1 < length files.old }
     ensures value { IfOk result (λ done. AreDescribed files.old files.new) }
     ensures count { length files.new ≡ length files.old }
-    ensures reply { IfErr result (IsLibraryReply files.old) }
-    ensures status { IfErr result (λ reply. IsOfReply reply.status) }
+    ensures stop { IfErr result (StopsAt (IsLibraryRefusal (file_at files.old 1))) }
 {
-    match description_of(alloc, files[1].items()) {
-        Ok(form) => {
-            files[1] = form;
-            Ok(())
-        }
-        Err(Stop::Refused(refusal)) => Err(refused(alloc, &refusal)),
-        Err(Stop::OutOfMemory) => Err(Reply::out_of_memory(alloc)),
-    }
+    files[1] = description_of(alloc, files[1].items())?;
+    Ok(())
 }

@@ -1,16 +1,17 @@
 //! A run: words, files, one answer.
-ghost use Rattle.std.specs.Prelude.{◌≡◌, ◌≢◌, ◌⊎◌, ℕ, map, string_bytes};
+ghost use Rattle.std.specs.Prelude.{◌≡◌, ◌≢◌, ◌≤◌, ◌⊎◌, ℕ, Some, OnErr, OnOk, map, string_bytes};
 ghost use Rattle.mintc_text.specs.Outside.{Rose};
 ghost use Rattle.mintc_command.specs.Answers.{MakesAtMost};
+ghost use Rattle.mintcx_run.specs.declared.reply.Beside.{Beside};
 ghost use Rattle.mintcx_run.specs.declared.reply.Reply.{Reply};
-ghost use Rattle.mintcx_run.specs.Deliveries.{IsDelivered, IsMade, IsWritten, sent};
+ghost use Rattle.mintcx_run.specs.Deliveries.{IsAt, IsDelivered, IsMade, IsMadeBeside, IsWritten, sent};
 ghost use Rattle.mintcx_run.specs.Replies.{IsReply};
 
 use crate::calling::reply_to;
 use crate::folder::Folder;
-use crate::reply::{Place, Reply};
+use crate::reply::{Beside, Place, Reply};
 use mintc_command_answers::Status;
-use mintc_text::{Name, Shelf, Sink};
+use mintc_text::{Failed, Name, Shelf, Sink};
 use std::alloc::Global;
 
 /// Writes an answer by one call. The status is the answer's, or that the write failed.
@@ -46,15 +47,30 @@ fn tell<E: Sink>(errors: &mut E, text: &[u8])
     let _ = errors.write(text);
 }
 
-/// Writes a reply by one call, to where it goes. The status is the reply's, or that an answer couldn't be written.
-fn deliver<O: Sink, E: Sink, F: Folder>(
+/// Makes the file beside a text, where there is one, by one call.
+fn make_beside<F: Folder>(folder: &mut F, beside: &Option<Beside>) -> Result<(), Failed>
+    ensures made { OnOk result (IsMadeBeside beside.now (F.made folder.old) (F.made folder.new)) }
+    ensures some { OnErr result ((file : Beside) × (beside.now ≡ Some file)) }
+    ensures later { F.faults folder.old ≤ F.faults folder.new }
+    ensures cause { OnErr result (Rose (F.faults folder.old) (F.faults folder.new)) }
+    ensures makes { MakesAtMost 1 (F.calls folder.old) (F.calls folder.new) }
+{
+    match beside {
+        Some(file) => folder.make(file.name.bytes(), file.text.items()),
+        None => Ok(()),
+    }
+}
+
+/// Writes the text of a reply by one call, to where it goes. The status is the reply's, or that an answer couldn't be
+/// written.
+fn put_text<O: Sink, E: Sink, F: Folder>(
     reply: &Reply,
     out: &mut O,
     errors: &mut E,
     folder: &mut F,
 ) -> Status
     requires { reply.now.status ≢ Status.WriteFault }
-    ensures delivered { IsDelivered reply.now result (sent (O.taken out.old) (O.taken out.new))
+    ensures at { IsAt reply.now.place reply.now result (sent (O.taken out.old) (O.taken out.new))
         (sent (E.taken errors.old) (E.taken errors.new)) (sent (F.made folder.old) (F.made folder.new)) }
     ensures cause { result ≡ Status.WriteFault →
         Rose (O.faults out.old) (O.faults out.new) ⊎ Rose (F.faults folder.old) (F.faults folder.new) }
@@ -75,9 +91,33 @@ fn deliver<O: Sink, E: Sink, F: Folder>(
     }
 }
 
+/// Makes the file beside a reply, and writes its text where that could be made. The status is the reply's, or that one
+/// of the two couldn't be written.
+fn deliver<O: Sink, E: Sink, F: Folder>(
+    reply: &Reply,
+    out: &mut O,
+    errors: &mut E,
+    folder: &mut F,
+) -> Status
+    requires { reply.now.status ≢ Status.WriteFault }
+    ensures delivered { IsDelivered reply.now result (sent (O.taken out.old) (O.taken out.new))
+        (sent (E.taken errors.old) (E.taken errors.new)) (sent (F.made folder.old) (F.made folder.new)) }
+    ensures cause { result ≡ Status.WriteFault →
+        Rose (O.faults out.old) (O.faults out.new) ⊎ Rose (F.faults folder.old) (F.faults folder.new) }
+    ensures unread { result ≡ Status.ReadFault → reply.now.status ≡ Status.ReadFault }
+    ensures writes { MakesAtMost 1 (O.calls out.old) (O.calls out.new) }
+    ensures tells { MakesAtMost 1 (E.calls errors.old) (E.calls errors.new) }
+    ensures makes { MakesAtMost 2 (F.calls folder.old) (F.calls folder.new) }
+{
+    match make_beside(folder, &reply.beside) {
+        Ok(()) => put_text(reply, out, errors, folder),
+        Err(_) => Status::WriteFault,
+    }
+}
+
 /// Does what the words ask, of which the first is the program's own name: reads the project file and the files that
-/// they name, each once and in their order, and writes the answer, or what is wrong, by one call. Nothing is written
-/// before the text is whole.
+/// they name, each once and in their order, makes the file of a certificate, where one is wanted, and writes the
+/// answer, or what is wrong, by one call. Nothing is written before the text is whole.
 pub fn run<S: Shelf, O: Sink, E: Sink, F: Folder>(
     alloc: Global,
     words: &[String],
@@ -97,7 +137,7 @@ pub fn run<S: Shelf, O: Sink, E: Sink, F: Folder>(
         Rose (O.faults out.old) (O.faults out.new) ⊎ Rose (F.faults folder.old) (F.faults folder.new) }
     ensures writes { MakesAtMost 1 (O.calls out.old) (O.calls out.new) }
     ensures tells { MakesAtMost 1 (E.calls errors.old) (E.calls errors.new) }
-    ensures makes { MakesAtMost 1 (F.calls folder.old) (F.calls folder.new) }
+    ensures makes { MakesAtMost 2 (F.calls folder.old) (F.calls folder.new) }
 {
     let reply = reply_to(alloc, words, shelf);
     deliver(&reply, out, errors, folder)

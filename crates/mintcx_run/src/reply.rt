@@ -20,12 +20,20 @@ pub enum Place {
     Nowhere,
 }
 
+/// A file that is made beside a text.
+#[derive(Debug, Drop)]
+pub struct Beside {
+    pub name: Name,
+    pub text: Bytes,
+}
+
 /// How a run ends, if what it has to write can be written, and what that is.
 #[derive(Drop)]
 pub struct Reply {
     pub status: Status,
     pub place: Place,
     pub text: Bytes,
+    pub beside: Option<Beside>,
 }
 
 impl Reply {
@@ -37,6 +45,7 @@ impl Reply {
             status: Status::OutOfMemory,
             place: Place::Nowhere,
             text: Bytes::new(Vec::new(alloc)),
+            beside: None,
         }
     }
 
@@ -49,6 +58,7 @@ impl Reply {
                 status,
                 place,
                 text: Bytes::new(bytes),
+                beside: None,
             },
             Err(_) => Reply::out_of_memory(alloc),
         }

@@ -36,6 +36,19 @@ decided by a chain of 2 constraints that takes 100 fs in 1 cycle:
 times in fs
 ||";
 
+/// The certificate of the table that a file takes, where nothing else is said.
+const CERTIFIED: &str = "0|||own.certcertificate 2
+least
+";
+
+/// A latch whose width of a pulse and a bound exclude each other.
+const NEVER_TABLE: &str =
+    "table 1\nphases 1\nphase pulse\nelements 1\nelement state 1 20000 - 40000 45000 80000\ninner 0\narcs 1\n\
+     arc q0 d0 150000 200000\nbounds 2\nbound s1 e1 60000 0\nbound e1 s1 -75000 0\nend\n";
+
+/// Its certificate, beside the text that no schedule is right.
+const NEVER_CERTIFIED: &str = "1|never|||";
+
 /// What there is at a cycle time above the least one.
 const RIGHT: &str = "0|right  cycle 1000 ps, 1000.000 MHz  (two.table)
 
@@ -253,6 +266,7 @@ const TABLE: Rows = Rows {
         ("two.schedule", TWO_SCHEDULE),
         ("two.cert", TWO_CERTIFICATE),
         ("fast.schedule", FAST),
+        ("never.table", NEVER_TABLE),
         ("mintc.toml", PROJECT),
         ("chip/mintc.toml", PROJECT),
         ("bad.toml", "[design]\ntabel = \"two.table\"\n"),
@@ -299,6 +313,23 @@ const TABLE: Rows = Rows {
         (
             "mintcx optimise --lib x --table y",
             "3||error: a table stands in place of the four files, and both are named\n|",
+        ),
+        (
+            "mintcx optimise --certificate own.cert -q",
+            CERTIFIED,
+        ),
+        (
+            "mintcx optimise --certificate own.cert --table never.table",
+            NEVER_CERTIFIED,
+        ),
+        (
+            "mintcx optimise --certificate own.cert --table two.cert",
+            "2||error[1]: refused 1 table 1\n|",
+        ),
+        (
+            "mintcx optimise --certificate own.cert --format plain",
+            "3||error: '--certificate' goes with '--format text'; '--format plain -o FILE' writes the certificate \
+             alone\n|",
         ),
         ("mintcx --version", "0|mintcx 0.1.0\n||"),
         ("mintcx optimise", LEAST),

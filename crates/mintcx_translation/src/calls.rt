@@ -27,8 +27,8 @@ pub enum Aspect {
 }
 
 /// A command of mintc, what of it is told, and the names of its files, in their order. Where `of_library` is set, the
-/// file of the cells of `corners` is a Liberty library, and the command is asked of its description. With `certificate`,
-/// the certificate of `optimise` is written to a file of this name.
+/// file of the cells of `corners` is a Liberty library, and the command is asked of its description. Where
+/// `certificate` names a file, the certificate of `optimise` is written to it.
 #[derive(Debug, Drop)]
 pub struct Call {
     pub command: Command,

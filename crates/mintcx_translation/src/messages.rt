@@ -16,7 +16,7 @@ impl Gap {
             Gap::Clamp => "'--clamp-negative' isn't there yet",
             Gap::Cycle => "'--cycle' has no plain form; '--format text' has one",
             Gap::Certificate => {
-                "'--certificate' has no plain form, which is the certificate; '-o FILE' writes it"
+                "'--certificate' goes with '--format text'; '--format plain -o FILE' writes the certificate alone"
             }
             Gap::ClockCells =>
                 "'--clock-cell' isn't there yet; liberty2toml writes cells to be edited",

@@ -1,6 +1,6 @@
 use Rattle.std.proofs.lemmas.Result.{err_from_is_err_and}
 use Rattle.mintcx_run.proofs.ReplyLaws.{early_gap}
-use Rattle.mintcx_run.proofs.calling.order_for.Goals as goal
+use Rattle.mintcx_run.proofs.orders.order_for.Goals as goal
 
 pub returns-in_err-settings-clause-no_fault : goal.returns-in_err-settings-clause-no_fault
 returns-in_err-settings-clause-no_fault g c =

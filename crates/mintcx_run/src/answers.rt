@@ -1,0 +1,179 @@
+//! What is answered to an order, of the first bytes of its files.
+ghost use Rattle.std.specs.Prelude.{◌≡◌, ◌<◌, ◌≤◌, true, length, List, ℕ, None, Some, OnSome, IfOk, IfErr};
+ghost use Rattle.mintc_text.specs.Limits.{large};
+ghost use Rattle.mintc_text.specs.Stops.{StopsAt};
+ghost use Rattle.mintc_command_answers.specs.Answers.{IsFirstRefusal, IsOfCommand};
+ghost use Rattle.mintc_command_answers.specs.Commands.{IsNumberInRange, roles_of};
+ghost use Rattle.mintcx_answers.specs.Answers.{IsOnFiles};
+ghost use Rattle.mintcx_run.specs.Replies.{IsAnswered, IsCertified, IsForPeople, IsFrontsAnswer, IsFrontsRefusal};
+ghost use Rattle.mintcx_run.specs.Replies.{IsLone, IsPlain, IsRefused, certified_source, is_own};
+
+use crate::libraries::describe;
+use crate::orders::Order;
+use mintc_command_answers::{Answer, Command, Job, Source, Status, answer_to};
+use mintc_text::{Bytes, Limits, OutOfMemory, Stop};
+use mintcx_answers::{Question, answer_text, certified_text, names_beside, subject_of};
+use mintcx_frame::View;
+use mintcx_manners::Format;
+use mintcx_translation::{Aspect, Call};
+use std::alloc::Global;
+
+/// What is told of an order: a status and a text, and a certificate that goes to a file.
+#[derive(Drop)]
+pub(crate) struct Told {
+    pub(crate) status: Status,
+    pub(crate) text: Bytes,
+    pub(crate) certificate: Option<Bytes>,
+}
+
+/// mintc's own answer to a call.
+fn plain_answer(alloc: Global, order: &Order, files: &mut [Bytes]) -> Result<Told, OutOfMemory>
+    requires count { length files.old ≡ length (roles_of order.now.call.command) }
+    requires in_range { IsNumberInRange order.now.call.command }
+    ensures { IfOk result (IsPlain order.now files.old) }
+{
+    let Answer { status, text } = answer_to(alloc, &Limits::large(), order.call.command, files)?;
+    Ok(Told {
+        status,
+        text,
+        certificate: None,
+    })
+}
+
+/// How the answer to a call is shown.
+fn view_of(alloc: Global, order: &Order, files: &[Bytes]) -> Result<View, OutOfMemory>
+    requires count { length files.now ≡ length (roles_of order.now.call.command) }
+    requires names { length order.now.call.files ≡ length (roles_of order.now.call.command) }
+    ensures unit { IfOk result (λ view. view.unit ≡ order.now.manner.unit) }
+    ensures limit { IfOk result (λ view. view.limit ≡ order.now.manner.limit) }
+{
+    let subject = subject_of(alloc, order.call.command, order.call.files.items(), files)?;
+    Ok(View {
+        subject,
+        unit: order.manner.unit,
+        limit: order.manner.limit,
+    })
+}
+
+/// The source of the design of an optimum whose certificate goes to a file.
+fn certified_source(call: &Call) -> Option<Source>
+    ensures value { result ≡ certified_source call.now }
+    ensures optimise { OnSome result (λ source. call.now.command ≡ Command.OfDesign Job.Optimise source) }
+{
+    match (call.command, &call.certificate) {
+        (
+            Command::OfDesign {
+                job: Job::Optimise,
+                source,
+            },
+            Some(_),
+        ) => Some(source),
+        _ => None,
+    }
+}
+
+/// The optimum of a design for people, and its certificate.
+fn certified_answer(
+    alloc: Global,
+    source: Source,
+    view: &View,
+    files: &mut [Bytes],
+) -> Result<Told, Stop>
+    requires count { length files.old ≡ length (roles_of (Command.OfDesign Job.Optimise source)) }
+    ensures value { IfOk result (IsCertified source files.old view.now) }
+    ensures of_command { IfOk result (λ told. IsOfCommand told.status) }
+    ensures stop { IfErr result
+        (StopsAt (IsFirstRefusal large (Command.OfDesign Job.Optimise source) files.old)) }
+{
+    let told = certified_text(alloc, &Limits::large(), source, view, files)?;
+    Ok(Told {
+        status: told.answer.status,
+        text: told.answer.text,
+        certificate: Some(told.certificate),
+    })
+}
+
+/// The answer to a call for people, with no certificate beside it.
+fn lone_answer(alloc: Global, order: &Order, view: &View, files: &mut [Bytes]) -> Result<Told, Stop>
+    requires count { length files.old ≡ length (roles_of order.now.call.command) }
+    requires names { length order.now.call.files ≡ length (roles_of order.now.call.command) }
+    requires in_range { IsNumberInRange order.now.call.command }
+    requires on_files { IsOnFiles order.now.call.command }
+    ensures value { IfOk result (IsLone order.now files.old view.now) }
+    ensures of_command { IfOk result (λ told. IsOfCommand told.status) }
+    ensures stop { IfErr result (StopsAt (IsFirstRefusal large order.now.call.command files.old)) }
+{
+    let beside = names_beside(alloc, order.call.command, order.call.files.items(), files)?;
+    let question = Question {
+        command: order.call.command,
+        aspect: order.call.aspect,
+        beside: beside.items(),
+    };
+    let Answer { status, text } = answer_text(alloc, &Limits::large(), &question, view, files)?;
+    Ok(Told {
+        status,
+        text,
+        certificate: None,
+    })
+}
+
+/// The answer to a call for people.
+fn people_answer(alloc: Global, order: &Order, files: &mut [Bytes]) -> Result<Told, Stop>
+    requires count { length files.old ≡ length (roles_of order.now.call.command) }
+    requires names { length order.now.call.files ≡ length (roles_of order.now.call.command) }
+    requires in_range { IsNumberInRange order.now.call.command }
+    requires on_files { IsOnFiles order.now.call.command }
+    ensures value { IfOk result (IsForPeople order.now files.old) }
+    ensures stop { IfErr result (StopsAt (IsFirstRefusal large order.now.call.command files.old)) }
+{
+    let view = view_of(alloc, order, files)?;
+    match certified_source(&order.call) {
+        Some(source) => certified_answer(alloc, source, &view, files),
+        None => lone_answer(alloc, order, &view, files),
+    }
+}
+
+/// Whether mintc's own answer is asked for.
+fn is_own(order: &Order) -> bool
+    ensures { result ≡ is_own order.now }
+{
+    let is_schedule = matches!(order.call.aspect, Aspect::Schedule(_));
+    matches!(order.manner.format, Format::Plain) && !is_schedule
+}
+
+/// The answer to a call in its form, of the first bytes of its files.
+fn answer_of(alloc: Global, order: &Order, files: &mut [Bytes]) -> Result<Told, Stop>
+    requires count { length files.old ≡ length (roles_of order.now.call.command) }
+    requires names { length order.now.call.files ≡ length (roles_of order.now.call.command) }
+    requires in_range { IsNumberInRange order.now.call.command }
+    requires on_files { IsOnFiles order.now.call.command }
+    ensures value { IfOk result (IsAnswered order.now files.old) }
+    ensures stop { IfErr result (StopsAt (IsRefused order.now files.old)) }
+{
+    if is_own(order) {
+        Ok(plain_answer(alloc, order, files)?)
+    } else {
+        people_answer(alloc, order, files)
+    }
+}
+
+/// The answer to a call, of the first bytes of its files; those of a library are described first.
+pub(crate) fn fronts_answer(alloc: Global, order: &Order, files: &mut [Bytes]) -> Result<Told, Stop>
+    requires count { length files.old ≡ length (roles_of order.now.call.command) }
+    requires names { length order.now.call.files ≡ length (roles_of order.now.call.command) }
+    requires in_range { IsNumberInRange order.now.call.command }
+    requires on_files { IsOnFiles order.now.call.command }
+    requires library { order.now.call.of_library ≡ true → 1 < length order.now.call.files }
+    ensures value { IfOk result (IsFrontsAnswer order.now files.old) }
+    ensures of_command { IfOk result (λ told. IsOfCommand told.status) }
+    ensures stop { IfErr result (StopsAt (IsFrontsRefusal order.now files.old)) }
+{
+    if order.call.of_library {
+        match describe(alloc, files) {
+            Ok(()) => answer_of(alloc, order, files),
+            Err(stop) => Err(stop),
+        }
+    } else {
+        answer_of(alloc, order, files)
+    }
+}
