@@ -75,7 +75,7 @@ module _ (most : Most) where
 
   -- ---- the status of an answer
 
-  of_certificate : (c : Certificate) → IsOfCommand (certificate_status c)
+  pub of_certificate : (c : Certificate) → IsOfCommand (certificate_status c)
   of_certificate (certificate.Least s ds m) = tt
   of_certificate (certificate.Never m) = tt
 

@@ -1,4 +1,5 @@
 mod AnsweringLaws
+mod CertificateLaws
 mod JobLaws
 mod ScheduleLaws
 mod CornerLaws

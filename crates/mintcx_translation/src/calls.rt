@@ -178,14 +178,28 @@ fn beside_of(task: Task) -> Beside
     ensures own { result.own ≡ own_file task }
     ensures certificate { result.certificate ≡ certificate_file task }
 {
-    let (own, certificate) = match task {
-        Task::Check { schedule } => (Some(schedule), None),
-        Task::Optimise { certificate, .. } => (None, certificate),
-        Task::Verify { certificate } => (Some(certificate), None),
-        Task::Schedule { certificate, .. } => (certificate, None),
-        _ => (None, None),
-    };
-    Beside { own, certificate }
+    match task {
+        Task::Check { schedule } => Beside {
+            own: Some(schedule),
+            certificate: None,
+        },
+        Task::Optimise { certificate, .. } => Beside {
+            own: None,
+            certificate,
+        },
+        Task::Verify { certificate } => Beside {
+            own: Some(certificate),
+            certificate: None,
+        },
+        Task::Schedule { certificate, .. } => Beside {
+            own: certificate,
+            certificate: None,
+        },
+        _ => Beside {
+            own: None,
+            certificate: None,
+        },
+    }
 }
 
 /// All files that are read for a task on a design, in mintc's order.
