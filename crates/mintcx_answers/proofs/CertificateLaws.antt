@@ -18,14 +18,7 @@ use Rattle.mintcx_answers.proofs.AnsweringLaws.{of_certificate}
 
 -- In a run with these limits.
 module _ (most : Most) where
-  -- the optimum of the system that the texts give
-  pub certified_given : {E : Type 0} (r : Result Certified E) (source : Source) (texts : List (List ℕ)) (t : Timing) (view : View) → Gives most source texts t →
-      IfOk r (λ (a : Certified). IsCertifiedAnswer t view a.answer.status a.answer.text a.certificate) →
-      IfOk r (λ (a : Certified). (t : Timing) × Gives most source texts t × IsCertifiedAnswer t view a.answer.status a.answer.text a.certificate)
-  certified_given (Err e) source texts t view gives h = tt
-  certified_given (Ok a) source texts t view gives h = (t, gives, h)
-
-  -- and so of texts that are short
+  -- the optimum of the system that short texts give
   pub certified_told : {E : Type 0} (r : Result Certified E) (source : Source) (texts : List (List ℕ)) (view : View) → AreShort most texts →
       IfOk r (λ (a : Certified). (t : Timing) × Gives most source texts t × IsCertifiedAnswer t view a.answer.status a.answer.text a.certificate) →
       IfOk r (λ (a : Certified). HasCertificate most source texts view a.answer.status a.answer.text a.certificate)
@@ -37,7 +30,7 @@ module _ (most : Most) where
       IfOk r (λ (a : Certified). (t : Timing) × Gives most source texts t × IsCertifiedAnswer t view a.answer.status a.answer.text a.certificate) →
       IfOk r (λ (a : Certified). IsOfCommand a.answer.status)
   certified_of_command (Err e) source texts view h = tt
-  certified_of_command (Ok a) source texts view (t, gives, (c, optimum, same, rest)) = subst IsOfCommand (sym same) (of_certificate most c)
+  certified_of_command (Ok a) source texts view (t, gives, (c, optimum, same, is_text, is_written)) = subst IsOfCommand (sym same) (of_certificate most c)
 
   -- and what stops it is the first refusal
   pub certified_stopped : {A : Type 0} (r : Result A Stop) (source : Source) (texts : List (List ℕ)) → AreShort most texts → IfErr r (StopsAt (IsSourceRefused most source texts)) →
