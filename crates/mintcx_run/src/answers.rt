@@ -1,5 +1,5 @@
 //! What is answered to an order, of the first bytes of its files.
-ghost use Rattle.std.specs.Prelude.{◌≡◌, ◌<◌, ◌≤◌, true, length, List, ℕ, None, Some, OnSome, IfOk, IfErr};
+ghost use Rattle.std.specs.Prelude.{◌≡◌, ◌<◌, ◌≤◌, true, length, List, ℕ, None, Some, IfSome, IfOk, IfErr};
 ghost use Rattle.mintc_text.specs.Limits.{large};
 ghost use Rattle.mintc_text.specs.Stops.{StopsAt};
 ghost use Rattle.mintc_command_answers.specs.Answers.{IsFirstRefusal, IsOfCommand};
@@ -58,7 +58,7 @@ fn view_of(alloc: Global, order: &Order, files: &[Bytes]) -> Result<View, OutOfM
 /// The source of the design of an optimum whose certificate goes to a file.
 fn certified_source(call: &Call) -> Option<Source>
     ensures value { result ≡ certified_source call.now }
-    ensures optimise { OnSome result (λ source. call.now.command ≡ Command.OfDesign Job.Optimise source) }
+    ensures optimise { IfSome result (λ source. call.now.command ≡ Command.OfDesign Job.Optimise source) }
 {
     match (call.command, &call.certificate) {
         (

@@ -3,6 +3,7 @@ ghost use Rattle.std.specs.Prelude.{◌≡◌, ◌≢◌, ◌<◌, ◌≤◌, �
 ghost use Rattle.mintc_text.specs.Outside.{Rose};
 ghost use Rattle.mintc_command.specs.Answers.{MakesAtMost};
 ghost use Rattle.mintc_command_answers.specs.Commands.{IsNumberInRange, roles_of};
+ghost use Rattle.mintc_command_answers.specs.declared.status.Status.TheVariants.{ReadFault, WriteFault};
 ghost use Rattle.mintcx_answers.specs.Answers.{IsOnFiles};
 ghost use Rattle.mintcx_run.specs.Replies.{IsCallReply, IsGivenReply, IsPlaced, IsReply, beside_of, place_of};
 
@@ -58,10 +59,10 @@ fn call_reply<S: Shelf>(alloc: Global, order: Order, shelf: &mut S) -> Reply
     requires on_files { IsOnFiles order.call.command }
     requires library { order.call.of_library ≡ true → 1 < length order.call.files }
     ensures reply { IsCallReply (S.files shelf.old) order result }
-    ensures no_fault { result.status ≢ Status.WriteFault }
+    ensures no_fault { result.status ≢ WriteFault }
     ensures same { S.files shelf.new ≡ S.files shelf.old }
     ensures later { S.faults shelf.old ≤ S.faults shelf.new }
-    ensures cause { result.status ≡ Status.ReadFault → Rose (S.faults shelf.old) (S.faults shelf.new) }
+    ensures cause { result.status ≡ ReadFault → Rose (S.faults shelf.old) (S.faults shelf.new) }
     ensures reads { MakesAtMost (length order.call.files) (S.calls shelf.old) (S.calls shelf.new) }
 {
     let mut files = match read_files(alloc, shelf, order.call.files.items()) {
@@ -79,9 +80,9 @@ fn call_reply<S: Shelf>(alloc: Global, order: Order, shelf: &mut S) -> Reply
 fn given_reply<S: Shelf>(alloc: Global, given: Given, shelf: &mut S) -> Reply
     ensures reply { (reads : ℕ) × IsGivenReply given (S.files shelf.old) reads result
         × MakesAtMost reads (S.calls shelf.old) (S.calls shelf.new) }
-    ensures no_fault { result.status ≢ Status.WriteFault }
+    ensures no_fault { result.status ≢ WriteFault }
     ensures same { S.files shelf.new ≡ S.files shelf.old }
-    ensures cause { result.status ≡ Status.ReadFault → Rose (S.faults shelf.old) (S.faults shelf.new) }
+    ensures cause { result.status ≡ ReadFault → Rose (S.faults shelf.old) (S.faults shelf.new) }
 {
     match order_for(alloc, given, shelf) {
         Ok(order) => call_reply(alloc, order, shelf),
@@ -93,9 +94,9 @@ fn given_reply<S: Shelf>(alloc: Global, given: Given, shelf: &mut S) -> Reply
 pub(crate) fn reply_to<S: Shelf>(alloc: Global, words: &[String], shelf: &mut S) -> Reply
     ensures reply { (reads : ℕ) × IsReply (map string_bytes words.now) (S.files shelf.old) reads result
         × MakesAtMost reads (S.calls shelf.old) (S.calls shelf.new) }
-    ensures no_fault { result.status ≢ Status.WriteFault }
+    ensures no_fault { result.status ≢ WriteFault }
     ensures same { S.files shelf.new ≡ S.files shelf.old }
-    ensures cause { result.status ≡ Status.ReadFault → Rose (S.faults shelf.old) (S.faults shelf.new) }
+    ensures cause { result.status ≡ ReadFault → Rose (S.faults shelf.old) (S.faults shelf.new) }
 {
     match given_of(alloc, words) {
         Ok(given) => given_reply(alloc, given, shelf),

@@ -1,0 +1,12 @@
+use Rattle.mintcx_run.proofs.ReplyLaws.{call_refused, call_told}
+use Rattle.mintcx_run.proofs.calling.call_reply.Goals as goal
+
+pub returns-in-Ok-fronts_answer-clause-reply : goal.returns-in-Ok-fronts_answer-clause-reply
+returns-in-Ok-fronts_answer-clause-reply g c =
+    call_told _ c.args.order c.in-Ok.files.items c.in-Ok-fronts_answer.told c.placed.result (rw c.items.ensures at c.in-Ok.ensures.fronts)
+    (rw c.as_mut_slice.ensures.value at c.in-Ok-fronts_answer.ensures.value) c.placed.ensures
+
+pub returns-in-Err-Refused-clause-reply : goal.returns-in-Err-Refused-clause-reply
+returns-in-Err-Refused-clause-reply g c =
+    call_refused _ c.args.order c.in-Ok.files.items c.in-Err-Refused.refusal c.refused.result (rw c.items.ensures at c.in-Ok.ensures.fronts)
+    (rw (c.as_mut_slice.ensures.value, c.in-Err-Refused.field-0-is) at c.in-Err-Refused.ensures.stop) c.refused.ensures
