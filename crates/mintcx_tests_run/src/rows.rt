@@ -39,6 +39,18 @@ times in fs
 /// The certificate of the table that a file takes, where nothing else is said.
 const CERTIFIED: &str = "0|||own.certcertificate 2
 least
+den 1
+cycle 100
+phases 2
+phase 0 10
+phase 10 30
+departures 2
+departure 0
+departure 20
+chain 2
+reach 1 0 1 1
+reach 0 1 1 0
+end
 ";
 
 /// A latch whose width of a pulse and a bound exclude each other.
@@ -47,7 +59,22 @@ const NEVER_TABLE: &str =
      arc q0 d0 150000 200000\nbounds 2\nbound s1 e1 60000 0\nbound e1 s1 -75000 0\nend\n";
 
 /// Its certificate, beside the text that no schedule is right.
-const NEVER_CERTIFIED: &str = "1|never|||";
+const NEVER_CERTIFIED: &str = "1|never  no schedule is right, whatever its cycle time  (never.table)
+
+a chain of 2 constraints asks for 5 ps more than there are, in no cycle:
+
+  from          to            at least  because
+  pulse starts  pulse ends          80  least pulse width of state
+  pulse ends    pulse starts       -75  bound 2
+
+times in ps
+||own.certcertificate 2
+never
+chain 2
+width 1
+bound 1
+end
+";
 
 /// What there is at a cycle time above the least one.
 const RIGHT: &str = "0|right  cycle 1000 ps, 1000.000 MHz  (two.table)
@@ -314,10 +341,7 @@ const TABLE: Rows = Rows {
             "mintcx optimise --lib x --table y",
             "3||error: a table stands in place of the four files, and both are named\n|",
         ),
-        (
-            "mintcx optimise --certificate own.cert -q",
-            CERTIFIED,
-        ),
+        ("mintcx optimise --certificate own.cert -q", CERTIFIED),
         (
             "mintcx optimise --certificate own.cert --table never.table",
             NEVER_CERTIFIED,
