@@ -279,6 +279,7 @@ def wrong_statuses_of_mintcx(folder, words, bad):
             ("a folder as a file", run(MINTCX, [*before, "."], folder), 4, b"error: '.'"),
             ("little memory", run(MINTCX, [*before, large.name], folder, preexec_fn=enough_for_words), 6, b""),
             ("a word that is no UTF-8", run(MINTCX, [*before, b"\xff"], folder), 7, b""),
+            ("a file that can't be made", run(MINTCX, [*words, "-o", "missing/answer"], folder), 5, b"error: 'missing/answer' can't be written"),
         ]:
             yield from said(f"mintcx, {what}", ran, status, front)
     yield from differences("mintcx, a quiet run", run(MINTCX, [*words, "-q"], folder), 0, b"")

@@ -32,12 +32,16 @@ IsWritten status text result before now = ((result ≡ status) × Takes before n
 abbrev pub IsMade : Status → Text → Text → Status → Option Files → Option Files → Type 0
 IsMade status name text result before now = ((result ≡ status) × Makes before now name text) ⊎ (result ≡ WriteFault)
 
+-- nothing is told but of a file that couldn't be made
+abbrev pub IsToldOf : Status → Sent (Option Text) → Type 0
+IsToldOf status errors = IsStill errors ⊎ (status ≡ WriteFault)
+
 -- what is left of a reply that goes to this place
 abbrev pub IsAt : Place → Reply → Status → Sent (Option Text) → Sent (Option Text) → Sent (Option Files) → Type 0
 IsAt place.Output reply status out errors made = IsWritten reply.status reply.text status out.was out.became
     × IsStill errors × IsStill made
 IsAt (place.File name) reply status out errors made = IsMade reply.status name reply.text status made.was made.became
-    × IsStill out × IsStill errors
+    × IsStill out × IsToldOf status errors
 IsAt place.Errors reply status out errors made = (status ≡ reply.status) × IsStill out × IsStill made
 IsAt place.Nowhere reply status out errors made = (status ≡ reply.status) × IsStill out × IsStill errors × IsStill made
 
@@ -46,14 +50,13 @@ abbrev pub IsMadeBeside : Option Beside → Option Files → Option Files → Ty
 IsMadeBeside None before now = now ≡ before
 IsMadeBeside (Some file) before now = Makes before now file.name file.text
 
--- there is a file beside the text that couldn't be made, and nothing is written
-abbrev pub IsLost : Reply → Status → Sent (Option Text) → Sent (Option Text) → Type 0
-IsLost reply status out errors = ((file : Beside) × (reply.beside ≡ Some file)) × (status ≡ WriteFault) × IsStill out
-    × IsStill errors
+-- there is a file beside the text that couldn't be made, and no answer is written
+abbrev pub IsLost : Reply → Status → Sent (Option Text) → Type 0
+IsLost reply status out = ((file : Beside) × (reply.beside ≡ Some file)) × (status ≡ WriteFault) × IsStill out
 
 -- What a run leaves that has this reply, of the two sinks and of the files that are made: the file beside its text is
 -- made, its text is where it goes, and nothing is elsewhere; or that file couldn't be made.
 abbrev pub IsDelivered : Reply → Status → Sent (Option Text) → Sent (Option Text) → Sent (Option Files) → Type 0
-IsDelivered reply status out errors made = IsLost reply status out errors
+IsDelivered reply status out errors made = IsLost reply status out
     ⊎ ((between : Option Files) × IsMadeBeside reply.beside made.was between
     × IsAt reply.place reply status out errors (sent between made.became))

@@ -4,11 +4,13 @@ ghost use Rattle.mintc_text.specs.Outside.{Rose};
 ghost use Rattle.mintc_command.specs.Answers.{MakesAtMost};
 ghost use Rattle.mintcx_run.specs.declared.reply.Beside.{Beside};
 ghost use Rattle.mintcx_run.specs.declared.reply.Reply.{Reply};
-ghost use Rattle.mintcx_run.specs.Deliveries.{IsAt, IsDelivered, IsMade, IsMadeBeside, IsWritten, sent};
+ghost use Rattle.mintcx_run.specs.Deliveries.{IsAt, IsDelivered, IsMade, IsMadeBeside, IsStill, IsToldOf, IsWritten};
+ghost use Rattle.mintcx_run.specs.Deliveries.{sent};
 ghost use Rattle.mintcx_run.specs.Replies.{IsReply};
 
 use crate::calling::reply_to;
 use crate::folder::Folder;
+use crate::reading::shown;
 use crate::reply::{Beside, Place, Reply};
 use mintc_command_answers::Status;
 use mintc_text::{Failed, Name, Shelf, Sink};
@@ -27,19 +29,6 @@ fn write<O: Sink>(out: &mut O, status: Status, text: &[u8]) -> Status
     }
 }
 
-/// Makes a file of an answer by one call. The status is the answer's, or that the file couldn't be made.
-fn make<F: Folder>(folder: &mut F, name: &Name, status: Status, text: &[u8]) -> Status
-    requires { status ≢ Status.WriteFault }
-    ensures left { IsMade status name.now text.now result (F.made folder.old) (F.made folder.new) }
-    ensures cause { result ≡ Status.WriteFault → Rose (F.faults folder.old) (F.faults folder.new) }
-    ensures makes { MakesAtMost 1 (F.calls folder.old) (F.calls folder.new) }
-{
-    match folder.make(name.bytes(), text) {
-        Ok(()) => status,
-        Err(_) => Status::WriteFault,
-    }
-}
-
 /// Tells a message by one call. Where that can't be written, nothing is said of it.
 fn tell<E: Sink>(errors: &mut E, text: &[u8])
     ensures { MakesAtMost 1 (E.calls errors.old) (E.calls errors.new) }
@@ -47,23 +36,73 @@ fn tell<E: Sink>(errors: &mut E, text: &[u8])
     let _ = errors.write(text);
 }
 
-/// Makes the file beside a text, where there is one, by one call.
-fn make_beside<F: Folder>(folder: &mut F, beside: &Option<Beside>) -> Result<(), Failed>
+/// Tells that a file couldn't be made, by at most one call.
+fn tell_unmade<E: Sink>(alloc: Global, errors: &mut E, name: &Name)
+    ensures { MakesAtMost 1 (E.calls errors.old) (E.calls errors.new) }
+{
+    let name = shown(name);
+    if let Ok(text) = format!(in alloc; "error: '{name}' can't be written\n") {
+        tell(errors, text.as_bytes());
+    }
+}
+
+/// Makes a file of an answer by one call. The status is the answer's, or that the file couldn't be made, which is told.
+fn make<E: Sink, F: Folder>(
+    alloc: Global,
+    name: &Name,
+    status: Status,
+    text: &[u8],
+    errors: &mut E,
+    folder: &mut F,
+) -> Status
+    requires { status ≢ Status.WriteFault }
+    ensures left { IsMade status name.now text.now result (F.made folder.old) (F.made folder.new) }
+    ensures told { IsToldOf result (sent (E.taken errors.old) (E.taken errors.new)) }
+    ensures cause { result ≡ Status.WriteFault → Rose (F.faults folder.old) (F.faults folder.new) }
+    ensures tells { MakesAtMost 1 (E.calls errors.old) (E.calls errors.new) }
+    ensures makes { MakesAtMost 1 (F.calls folder.old) (F.calls folder.new) }
+{
+    match folder.make(name.bytes(), text) {
+        Ok(()) => status,
+        Err(_) => {
+            tell_unmade(alloc, errors, name);
+            Status::WriteFault
+        }
+    }
+}
+
+/// Makes the file beside a text, where there is one, by one call. That it couldn't be made is told.
+fn make_beside<E: Sink, F: Folder>(
+    alloc: Global,
+    beside: &Option<Beside>,
+    errors: &mut E,
+    folder: &mut F,
+) -> Result<(), Failed>
     ensures made { OnOk result (IsMadeBeside beside.now (F.made folder.old) (F.made folder.new)) }
+    ensures still { OnOk result (IsStill (sent (E.taken errors.old) (E.taken errors.new))) }
+    ensures untold { OnOk result (E.calls errors.new ≡ E.calls errors.old) }
     ensures some { OnErr result ((file : Beside) × (beside.now ≡ Some file)) }
     ensures later { F.faults folder.old ≤ F.faults folder.new }
     ensures cause { OnErr result (Rose (F.faults folder.old) (F.faults folder.new)) }
+    ensures tells { MakesAtMost 1 (E.calls errors.old) (E.calls errors.new) }
     ensures makes { MakesAtMost 1 (F.calls folder.old) (F.calls folder.new) }
 {
-    match beside {
-        Some(file) => folder.make(file.name.bytes(), file.text.items()),
-        None => Ok(()),
+    let Some(file) = beside else {
+        return Ok(());
+    };
+    match folder.make(file.name.bytes(), file.text.items()) {
+        Ok(()) => Ok(()),
+        Err(failed) => {
+            tell_unmade(alloc, errors, &file.name);
+            Err(failed)
+        }
     }
 }
 
 /// Writes the text of a reply by one call, to where it goes. The status is the reply's, or that an answer couldn't be
 /// written.
 fn put_text<O: Sink, E: Sink, F: Folder>(
+    alloc: Global,
     reply: &Reply,
     out: &mut O,
     errors: &mut E,
@@ -82,7 +121,7 @@ fn put_text<O: Sink, E: Sink, F: Folder>(
     let text = reply.text.items();
     match &reply.place {
         Place::Output => write(out, reply.status, text),
-        Place::File(name) => make(folder, name, reply.status, text),
+        Place::File(name) => make(alloc, name, reply.status, text, errors, folder),
         Place::Errors => {
             tell(errors, text);
             reply.status
@@ -94,6 +133,7 @@ fn put_text<O: Sink, E: Sink, F: Folder>(
 /// Makes the file beside a reply, and writes its text where that could be made. The status is the reply's, or that one
 /// of the two couldn't be written.
 fn deliver<O: Sink, E: Sink, F: Folder>(
+    alloc: Global,
     reply: &Reply,
     out: &mut O,
     errors: &mut E,
@@ -109,8 +149,8 @@ fn deliver<O: Sink, E: Sink, F: Folder>(
     ensures tells { MakesAtMost 1 (E.calls errors.old) (E.calls errors.new) }
     ensures makes { MakesAtMost 2 (F.calls folder.old) (F.calls folder.new) }
 {
-    match make_beside(folder, &reply.beside) {
-        Ok(()) => put_text(reply, out, errors, folder),
+    match make_beside(alloc, &reply.beside, errors, folder) {
+        Ok(()) => put_text(alloc, reply, out, errors, folder),
         Err(_) => Status::WriteFault,
     }
 }
@@ -140,5 +180,5 @@ pub fn run<S: Shelf, O: Sink, E: Sink, F: Folder>(
     ensures makes { MakesAtMost 2 (F.calls folder.old) (F.calls folder.new) }
 {
     let reply = reply_to(alloc, words, shelf);
-    deliver(&reply, out, errors, folder)
+    deliver(alloc, &reply, out, errors, folder)
 }

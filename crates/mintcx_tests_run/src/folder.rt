@@ -3,10 +3,11 @@ ghost use Rattle.std.specs.Prelude.{None, Some};
 
 use mintc_text::Failed;
 use mintcx_run::Folder;
-use std::alloc::Global;
+use std::alloc::{AllocError, Global};
 use std::marker::Model;
 
-/// A folder that keeps the name and the bytes of each file, one after the other, seen as the count of faults.
+/// A folder with no folders in it, that keeps the name and the bytes of each file, one after the other, seen as the
+/// count of faults.
 #[derive(Drop)]
 pub(crate) struct MemoryFolder {
     text: Vec<u8>,
@@ -30,6 +31,12 @@ impl MemoryFolder {
         }
     }
 
+    /// Keeps the name and the bytes of a file.
+    fn keep(&mut self, name: &[u8], bytes: &[u8]) -> Result<(), AllocError> {
+        self.text.extend_from_slice(name)?;
+        self.text.extend_from_slice(bytes)
+    }
+
     /// The names and the bytes of the files, one after the other.
     pub(crate) fn text(&self) -> &[u8] {
         &self.text
@@ -43,13 +50,9 @@ impl Folder for MemoryFolder {
 
     ghost calls = { λ _. None };
 
-    /// Keeps the name and the bytes.
+    /// Keeps the name and the bytes of a file that is no folder's.
     fn make(&mut self, name: &[u8], bytes: &[u8]) -> Result<(), Failed> {
-        let kept = match self.text.extend_from_slice(name) {
-            Ok(()) => self.text.extend_from_slice(bytes).is_ok(),
-            Err(_) => false,
-        };
-        if kept {
+        if !name.contains(&b'/') && self.keep(name, bytes).is_ok() {
             return Ok(());
         }
         self.faults = self.faults.saturating_add(1);

@@ -54,12 +54,12 @@ end
 ";
 
 /// A latch whose width of a pulse and a bound exclude each other.
-const NEVER_TABLE: &str =
+pub(crate) const PULSE_TABLE: &str =
     "table 1\nphases 1\nphase pulse\nelements 1\nelement state 1 20000 - 40000 45000 80000\ninner 0\narcs 1\n\
      arc q0 d0 150000 200000\nbounds 2\nbound s1 e1 60000 0\nbound e1 s1 -75000 0\nend\n";
 
 /// Its certificate, beside the text that no schedule is right.
-const NEVER_CERTIFIED: &str = "1|never  no schedule is right, whatever its cycle time  (never.table)
+const PULSE_CERTIFIED: &str = "1|never  no schedule is right, whatever its cycle time  (pulse.table)
 
 a chain of 2 constraints asks for 5 ps more than there are, in no cycle:
 
@@ -293,7 +293,7 @@ const TABLE: Rows = Rows {
         ("two.schedule", TWO_SCHEDULE),
         ("two.cert", TWO_CERTIFICATE),
         ("fast.schedule", FAST),
-        ("never.table", NEVER_TABLE),
+        ("pulse.table", PULSE_TABLE),
         ("mintc.toml", PROJECT),
         ("chip/mintc.toml", PROJECT),
         ("bad.toml", "[design]\ntabel = \"two.table\"\n"),
@@ -343,12 +343,16 @@ const TABLE: Rows = Rows {
         ),
         ("mintcx optimise --certificate own.cert -q", CERTIFIED),
         (
-            "mintcx optimise --certificate own.cert --table never.table",
-            NEVER_CERTIFIED,
+            "mintcx optimise --certificate own.cert --table pulse.table",
+            PULSE_CERTIFIED,
         ),
         (
             "mintcx optimise --certificate own.cert --table two.cert",
             "2||error[1]: refused 1 table 1\n|",
+        ),
+        (
+            "mintcx optimise --certificate no/own.cert",
+            "5||error: 'no/own.cert' can't be written\n|",
         ),
         (
             "mintcx optimise --certificate own.cert --format plain",
