@@ -1,0 +1,14 @@
+-- Which numbers are explained, and what an explanation begins with.
+use Rattle.std.specs.Prelude.{ℕ, List, ◌++◌, ◌≡◌, ◌≤◌, ◌≢◌, codes, decimal, length, take}
+
+-- a refusal has this number: they go from 1 to 22, and none has 20
+abbrev pub IsRefusalNumber : ℕ → Type 0
+IsRefusalNumber number = (1 ≤ number) × (number ≤ 22) × (number ≢ 20)
+
+-- a text begins with another one
+abbrev pub BeginsWith : List ℕ → List ℕ → Type 0
+BeginsWith front text = take (length front) text ≡ front
+
+-- a text begins with the number, a colon and a blank
+abbrev pub IsOfNumber : ℕ → List ℕ → Type 0
+IsOfNumber number text = BeginsWith (decimal number ++ codes ": ") text
