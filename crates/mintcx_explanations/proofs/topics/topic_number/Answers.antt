@@ -5,7 +5,7 @@ use Rattle.mintcx_explanations.proofs.topics.topic_number.Goals as goal
 -- src/topics.rt:8:1
 pub returns-in_default : goal.returns-in_default
 returns-in_default c =
-    twenty c.args.topic.now c.in-Some.number (c.in-Some.ensures tt).0 (c.in-Some.ensures tt).1 c.if-number-ne20.false
+    twenty c.args.topic.now c.in-Some.number c.in-Some.ensures.0 c.in-Some.ensures.1 c.if-number-ne20.false
 
 -- src/topics.rt:8:1
 pub returns-in_default-2 : goal.returns-in_default-2
