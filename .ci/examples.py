@@ -6,6 +6,7 @@ write on standard error.
   begins is free for mintc, so its lines are compared as a ring.
 - Plain: for each line of mintc, mintcx with the same files by options and `--format plain` writes what mintc writes and ends so.
 - Statuses 2 to 7 of each program: 0 and 1 are those of examples.
+- Explanations: of each refusal, mintcx writes what its section of docs/refusals.md has, to the byte.
 - Pieces: a table and its answer, each longer than 131,072 bytes, by files and by pipes.
 - Limits: a table with as many elements as there may be, and designs with more elements, pairs and arcs than there may be, of mintc and of
   mintc_large.
@@ -293,9 +294,27 @@ def wrong_statuses_of_mintcx(folder, words, bad):
             yield f"mintcx, an answer in a file: {answer.read_bytes()[:99]} in place of {output[:99]}"
 
 
+def sections():
+    """The sections of docs/refusals.md on one refusal each, by its number, as they are to be written."""
+    page = (TOP / "docs/refusals.md").read_text()
+    part = page.split("\n## Each refusal\n", 1)[1].split("\n## ", 1)[0]
+    for piece in part.split("\n### ")[1:]:
+        yield int(piece.split(":", 1)[0]), piece.rstrip("\n") + "\n"
+
+
+def other_explanations():
+    explained = dict(sections())
+    if list(explained) != [number for number in range(1, 23) if number != 20]:
+        yield f"docs/refusals.md explains {list(explained)}"
+    for number, text in explained.items():
+        words = ["explain", str(number)]
+        yield from differences(" ".join(["mintcx", *words]), run(MINTCX, words, TOP), 0, text.encode())
+
+
 def wrong():
     yield from wrong_examples()
     yield from other_plain_answers()
+    yield from other_explanations()
     latches, ring = TOP / "examples/two-latches", TOP / "examples/from-tools/latch-ring"
     check = ["check", "table", "two.table", "two.schedule"]
     for program in (MINTC, MINTC_LARGE):

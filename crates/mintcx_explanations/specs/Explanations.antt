@@ -1,5 +1,5 @@
 -- Which numbers are explained, and what an explanation begins with.
-use Rattle.std.specs.Prelude.{ℕ, List, ◌++◌, ◌≡◌, ◌≤◌, ◌≢◌, codes, decimal, length, take}
+use Rattle.std.specs.Prelude.{ℕ, List, ◌++◌, ◌≡◌, ◌≤◌, ◌≢◌, ◌⊎◌, codes, decimal, length, take}
 
 -- a refusal has this number: they go from 1 to 22, and none has 20
 abbrev pub IsRefusalNumber : ℕ → Type 0
@@ -12,3 +12,7 @@ BeginsWith front text = take (length front) text ≡ front
 -- a text begins with the number, a colon and a blank
 abbrev pub IsOfNumber : ℕ → List ℕ → Type 0
 IsOfNumber number text = BeginsWith (decimal number ++ codes ": ") text
+
+-- a topic names a refusal by the numeral of its number, alone or as in `error[8]`
+abbrev pub Names : List ℕ → ℕ → Type 0
+Names topic number = (topic ≡ decimal number) ⊎ (topic ≡ codes "error[" ++ (decimal number ++ codes "]"))

@@ -6,13 +6,31 @@ ghost use Rattle.mintcx_explanations.specs.Explanations.{IsOfNumber};
 pub(crate) fn bad_cell() -> &'static str
     ensures { IsOfNumber 13 result.now }
 {
-    "13: a page
+    "13: a cell description breaks a rule
 
-Words of the page, which say \"something\".
+`refused 13 N R`: cell N breaks rule R. Cells are counted from 1 in byte order
+of their names; N is 0 where no single cell is meant. The rules are:
 
-    example
+    0  the file is TOML, in UTF-8
+    1  it has nothing but `cell`, a table: write each cell as [cell.NAME]
+    2  a cell is a table, with a name of 1 to 255 bytes without blanks, and
+       its `kind` is \"gate\", \"latch\", \"flop\" or \"clock\"
+    3  no key but those of the kind
+    4  all keys of pins are there, and name as many pins as they may
+    5  no name of a pin comes twice
+    6  times are whole femtoseconds within their limits
+    7  no max is below its min, once what isn't said is filled in
+    8  `active` is \"high\" or \"low\", `edge` is \"rising\" or \"falling\", and
+       `invert` is true or false, without quotes
 
-more words
+    [cell.BUF]
+    kind = \"gate\"
+    inputs = \"A\"
+    outputs = [\"Y\"]
+
+gives `refused 13 1 4`, as one pin is a list too: `inputs = [\"A\"]`. For 20 ps
+write 20_000 and not 0.02. Rule 4 also comes of a key that is missing, and
+rule 3 of one that is misspelt. docs/formats.md has all keys.
 "
 }
 
@@ -21,13 +39,32 @@ more words
 pub(crate) fn bad_clock() -> &'static str
     ensures { IsOfNumber 14 result.now }
 {
-    "14: a page
+    "14: a clock description breaks a rule
 
-Words of the page, which say \"something\".
+`refused 14 N R`: item N breaks rule R. Phases, bounds, inputs and outputs are
+each counted from 1; N is 0 where no single item is meant. The rules are:
 
-    example
+    0  the file is TOML, in UTF-8
+    1  it has nothing but `top`, a name, and the lists of tables `phase`,
+       `bound`, `input` and `output`
+    2  there is a phase
+    3  a phase has a `name` and a `port`, may have a `level`, \"high\" or
+       \"low\", and nothing else
+    4  no two phases have one name, or one port and level
+    5  a bound has `from`, `to`, `gap` and `cycles`, in form, and names
+       phases that are there
+    6  an input has a `port` and a `phase` that is there, may have `min` and
+       `max`, in form and the max not below the min, and nothing else
+    7  an output has a `port` and a `phase` that is there, may have `setup`
+       and `hold`, in form, and nothing else
 
-more words
+    [phase]
+    name = \"p\"
+    port = \"clk\"
+
+gives `refused 14 0 1`: a list is written with two brackets, `[[phase]]`. The
+ends of a bound are \"origin\", \"start NAME\" or \"end NAME\", with NAME a phase;
+`cycles` is 0 or 1. docs/formats.md has all keys.
 "
 }
 
@@ -36,12 +73,22 @@ more words
 pub(crate) fn no_phase() -> &'static str
     ensures { IsOfNumber 15 result.now }
 {
-    "15: a page
+    "15: a latch or flop is on no phase
 
-Words of the page, which say \"something\".
+`refused 15 E`: the enable or clock pin of latch or flop E leads back to no
+phase. They are counted from 0, in the order of the netlist walked from its
+top. The way goes along nets and through cells of kind `clock`. It has to end
+at an input of the top which a phase has with the level that is reached.
 
-    example
+    LAT a (.D(c), .G(1'b1));
 
-more words
+has no phase: a constant is none. Nor has a pin behind a gate, behind a port
+that no phase names, or on a ring.
+
+Give the phase its port and its level. Describe buffers, inverters and clock
+gates on the way as cells of kind `clock`, with one pin for the clock and the
+others in `ignored`. Where the clock comes to such a cell now at one pin and
+now at another, or data goes through it elsewhere, name a cell of its own for
+the clock in the source (docs/from-tools.md).
 "
 }

@@ -10,6 +10,8 @@ mod designs;
 mod explaining;
 mod laws;
 mod netlists;
+#[cfg(test)]
+mod tests;
 mod texts;
 mod topics;
 
