@@ -27,6 +27,6 @@ twenty word z within said same n is other =
 pub in_front : (topic rest : List ℕ) (r : Option (Bor (List ℕ))) → topic ≡ codes "error[" ++ rest →
     MatchOption r ((front : List ℕ) → rest ≢ front ++ codes "]") (λ x. rest ≡ x.now ++ codes "]") →
     MatchOption r ((inner : List ℕ) → topic ≡ codes "error[" ++ (inner ++ codes "]") → ⊥)
-        (λ x. topic ≡ codes "error[" ++ (x.now ++ codes "]"))
+    (λ x. topic ≡ codes "error[" ++ (x.now ++ codes "]"))
 in_front topic rest None is h = λ inner same. h inner (append_cancel_left (codes "error[") rest (inner ++ codes "]") (sym is ∙ same))
 in_front topic rest (Some x) is h = is ∙ ap (λ (v : List ℕ). codes "error[" ++ v) h

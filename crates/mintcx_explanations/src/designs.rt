@@ -106,16 +106,16 @@ pub(crate) fn corner() -> &'static str
     "22: a corner is refused
 
 `refused 22 FILE`: the design with delay file FILE of `corners` is refused,
-and none before it. Delay files are counted from 1. A second line says how, as
-if it were the only one.
+and none before it. Delay files are counted from 1. Each corner has to be a
+design by itself; they share netlist, cells and clock.
 
     refused 22 2
     refused 1 delays 1
 
-Here the second delay file isn't closed. Each corner has to be a design by
-itself, as they share netlist, cells and clock.
+Here the second delay file isn't closed. `mintc` writes the corner's own
+refusal as a second line; `optimise` with that delay file alone says it too.
 
-Do what the second line asks for. Where it speaks of the netlist, the cells or
+Do what that refusal asks for. Where it speaks of the netlist, the cells or
 the clock, FILE is 1, and the other corners have the same fault.
 "
 }
