@@ -23,14 +23,18 @@ of their names; N is 0 where no single cell is meant. The rules are:
     8  `active` is \"high\" or \"low\", `edge` is \"rising\" or \"falling\", and
        `invert` is true or false, without quotes
 
+So a description of one cell,
+
     [cell.BUF]
     kind = \"gate\"
     inputs = \"A\"
     outputs = [\"Y\"]
 
-gives `refused 13 1 4`, as one pin is a list too: `inputs = [\"A\"]`. For 20 ps
-write 20_000 and not 0.02. Rule 4 also comes of a key that is missing, and
-rule 3 of one that is misspelt. docs/formats.md has all keys.
+gives `refused 13 1 4`, as one pin is a list too: `inputs = [\"A\"]`.
+
+Mend the cell: docs/formats.md has all keys. Times are femtoseconds: 20 ps are
+20_000 and not 0.02. Rule 3 also comes of a key that is misspelt, and rule 0
+mostly of a key twice or a quote that is left open.
 "
 }
 
@@ -58,13 +62,17 @@ each counted from 1; N is 0 where no single item is meant. The rules are:
     7  an output has a `port` and a `phase` that is there, may have `setup`
        and `hold`, in form, and nothing else
 
+So a description that begins
+
     [phase]
     name = \"p\"
     port = \"clk\"
 
-gives `refused 14 0 1`: a list is written with two brackets, `[[phase]]`. The
-ends of a bound are \"origin\", \"start NAME\" or \"end NAME\", with NAME a phase;
-`cycles` is 0 or 1. docs/formats.md has all keys.
+gives `refused 14 0 1`, as an item of a list has two brackets: `[[phase]]`.
+
+Mend the item: docs/formats.md has all keys. Times are whole femtoseconds. The
+ends of a bound are \"origin\", \"start NAME\" and \"end NAME\", with NAME a phase,
+and its `cycles` are 0 or 1.
 "
 }
 
