@@ -12,21 +12,20 @@ use Rattle.mintcx_requests.specs.declared.given.Given.{Given}
 use Rattle.mintcx_requests.specs.declared.requests.Request.{Request}
 use Rattle.mintcx_requests.specs.declared.requests.Request.TheVariants as request
 use Rattle.mintcx_project.specs.declared.project.Settings.{Settings}
-use Rattle.mintcx_translation.specs.declared.calls.Gap.TheVariants as gap
 use Rattle.mintcx_run.specs.declared.answers.Told.{Told}
 use Rattle.mintcx_run.specs.declared.orders.Order.{Order}
 use Rattle.mintcx_run.specs.declared.reply.Reply.{Reply}
-use Rattle.mintcx_run.specs.Replies.{AreUnread, IsCallReply, IsEarlyReply, IsFrontsAnswer, IsFrontsRefusal, IsGapReply, IsGiven, IsGivenReply, IsMessage, IsOrdered, IsPlaced, IsReply, IsSettings, IsUnread, IsWordsReply}
+use Rattle.mintcx_run.specs.Replies.{AreUnread, IsCallReply, IsEarlyReply, IsExplanationReply, IsFrontsAnswer, IsFrontsRefusal, IsGiven, IsGivenReply, IsMessage, IsOrdered, IsOtherReply, IsPlaced, IsReply, IsSettings, IsUnread, IsWordsReply}
 
--- an explanation isn't there yet
-pub explain_gap : (asked : Request) (topic : Text) (reply : Reply) → asked ≡ request.Explain topic → IsMessage Usage reply → IsGapReply asked reply
-explain_gap asked topic reply is h =
-    let own : IsGapReply (request.Explain topic) reply = inr (gap.Explain, refl, h) in
-    subst (λ (x : Request). IsGapReply x reply) (sym is) own
+-- an explanation is asked for, and given
+pub explained : (asked : Request) (topic : Text) (reply : Reply) → asked ≡ request.Explain topic → IsExplanationReply topic reply → IsOtherReply asked reply
+explained asked topic reply is h =
+    let own : IsOtherReply (request.Explain topic) reply = h in
+    subst (λ (x : Request). IsOtherReply x reply) (sym is) own
 
 -- so the request has no call
 pub early_gap : (r : Result Order Reply) (given : Given) (files : Option Files) (settings : Settings) (asked : Request) → IsSettings files given.project settings → request_of given settings ≡ Ok asked →
-    IfErr r (IsGapReply asked) → IfErr r (IsEarlyReply given files)
+    IfErr r (IsOtherReply asked) → IfErr r (IsEarlyReply given files)
 early_gap (Ok o) given files settings asked said is h = tt
 early_gap (Err reply) given files settings asked said is h = inr (settings, said, inr (asked, is, h))
 

@@ -21,6 +21,7 @@ use Rattle.mintc_command_answers.specs.declared.command.Source.{Source}
 use Rattle.mintc_command_answers.specs.declared.status.Status.{Status}
 use Rattle.mintc_command_answers.specs.declared.status.Status.TheVariants.{Done, Refused, Usage, ReadFault}
 use Rattle.mintc_command_answers.specs.declared.status.Status.TheVariants.{OutOfMemory}
+use Rattle.mintcx_explanations.specs.Explanations.{IsOfNumber, IsRefusalNumber, Names}
 use Rattle.mintcx_manners.specs.declared.manners.Format.{Format}
 use Rattle.mintcx_manners.specs.declared.manners.Format.TheVariants as format
 use Rattle.mintcx_project.specs.Projects.{IsFaultOf, Says, no_settings}
@@ -38,7 +39,6 @@ use Rattle.mintcx_translation.specs.declared.calls.Aspect.{Aspect}
 use Rattle.mintcx_translation.specs.declared.calls.Aspect.TheVariants as aspect
 use Rattle.mintcx_translation.specs.declared.calls.Call.{Call}
 use Rattle.mintcx_translation.specs.declared.calls.Gap.{Gap}
-use Rattle.mintcx_translation.specs.declared.calls.Gap.TheVariants as gap
 use Rattle.mintcx_words.specs.CommandLine.{IsProgram}
 use Rattle.mintcx_words.specs.Misread.{IsReading}
 use Rattle.mintcx_words.specs.declared.words.Misread.{Misread}
@@ -134,14 +134,30 @@ IsOrderOf (request.Explain topic) order = ⊥
 IsOrderOf (request.OfDesign what files clamp manner) order =
     (call_for manner.format clamp what files ≡ Ok order.call) × (order.manner ≡ manner)
 
--- this of a request isn't there yet
-abbrev pub HasGap : Request → Gap → Type 0
-HasGap (request.Explain topic) missing = missing ≡ gap.Explain
-HasGap (request.OfDesign what files clamp manner) missing = call_for manner.format clamp what files ≡ Err missing
-
--- something of a request isn't there yet, and it is said
+-- something of a task on a design isn't there yet, and it is said
 abbrev pub IsGapReply : Request → Reply → Type 0
-IsGapReply asked reply = IsOutOfMemory reply ⊎ ((missing : Gap) × HasGap asked missing × IsMessage Usage reply)
+IsGapReply (request.Explain topic) reply = ⊥
+IsGapReply (request.OfDesign what files clamp manner) reply = IsOutOfMemory reply
+    ⊎ ((missing : Gap) × (call_for manner.format clamp what files ≡ Err missing) × IsMessage Usage reply)
+
+-- a topic names no refusal
+abbrev pub NamesNone : Text → Type 0
+NamesNone topic = (n : ℕ) → IsRefusalNumber n → Names topic n → ⊥
+
+-- a page is that of the refusal that a topic names
+abbrev pub IsPageOf : Text → Text → Type 0
+IsPageOf topic page = (n : ℕ) × IsRefusalNumber n × Names topic n × IsOfNumber n page
+
+-- the page of the refusal that a topic names, as an answer, or a message that it names none
+abbrev pub IsExplanationReply : Text → Reply → Type 0
+IsExplanationReply topic reply = (NamesNone topic × IsMessage Usage reply)
+    ⊎ ((page : Text) × IsPageOf topic page × IsSaying Done place.Output page reply)
+
+-- the reply to a request that is no call of mintc
+abbrev pub IsOtherReply : Request → Reply → Type 0
+IsOtherReply (request.Explain topic) reply = IsExplanationReply topic reply
+IsOtherReply (request.OfDesign what files clamp manner) reply =
+    IsGapReply (request.OfDesign what files clamp manner) reply
 
 -- words and settings are no request, and it is said why
 abbrev pub IsFaultyReply : Given → Settings → Reply → Type 0
@@ -289,10 +305,10 @@ pub record IsOrdered (given : Given) (files : Option Files) (order : Order) : Ty
   pub requested : request_of given settings ≡ Ok asked
   pub is_order : IsOrderOf asked order
 
--- words and settings are no request, or one of which something isn't there yet
+-- words and settings are no request, or one that is no call of mintc
 abbrev pub IsRequestReply : Given → Settings → Reply → Type 0
 IsRequestReply given settings reply = IsFaultyReply given settings reply
-    ⊎ ((asked : Request) × (request_of given settings ≡ Ok asked) × IsGapReply asked reply)
+    ⊎ ((asked : Request) × (request_of given settings ≡ Ok asked) × IsOtherReply asked reply)
 
 -- The reply where what the words give is no call, by the project file, or by the request.
 abbrev pub IsEarlyReply : Given → Option Files → Reply → Type 0

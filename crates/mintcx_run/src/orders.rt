@@ -5,15 +5,17 @@ ghost use Rattle.mintc_command.specs.Answers.{MakesAtMost};
 ghost use Rattle.mintc_command_answers.specs.Commands.{IsNumberInRange, roles_of};
 ghost use Rattle.mintcx_answers.specs.Answers.{IsOnFiles};
 ghost use Rattle.mintcx_requests.specs.Requests.{request_of};
-ghost use Rattle.mintcx_run.specs.Replies.{IsEarlyReply, IsFaultyReply, IsGapReply, IsOrderOf, IsOrdered};
+ghost use Rattle.mintcx_run.specs.Replies.{IsEarlyReply, IsFaultyReply, IsGapReply, IsExplanationReply, IsOrderOf, IsOrdered};
+ghost use Rattle.mintcx_run.specs.Replies.{IsOtherReply, IsPageOf, NamesNone};
 
 use crate::projects::settings_of;
-use crate::reply::Reply;
+use crate::reply::{Place, Reply};
 use mintc_command_answers::Status;
-use mintc_text::Shelf;
+use mintc_text::{Name, Shelf};
+use mintcx_explanations::{explanation_of, topic_number};
 use mintcx_project::Settings;
 use mintcx_requests::{Design, Given, Manner, Request, Task, request_of};
-use mintcx_translation::{Call, Gap, NoCall, call_of};
+use mintcx_translation::{Call, NoCall, call_of};
 use std::alloc::Global;
 
 /// A call of mintc, and how its answer is given.
@@ -56,17 +58,40 @@ fn design_order(
     }
 }
 
-/// The call of mintc for a request, or what isn't there yet.
+/// The page of the refusal that a topic names.
+fn page_of(topic: &[u8]) -> Option<&'static str>
+    ensures { MatchOption result (NamesNone topic.now) (IsPageOf topic.now) }
+{
+    explanation_of(topic_number(topic)?)
+}
+
+/// The page of the refusal that a topic names, or that it names none.
+fn explanation_reply(alloc: Global, topic: &Name) -> Reply
+    ensures reply { IsExplanationReply topic.now result }
+    ensures no_read { result.status ≢ Status.ReadFault }
+    ensures no_write { result.status ≢ Status.WriteFault }
+{
+    match page_of(topic.bytes()) {
+        Some(page) => Reply::saying(alloc, Status::Done, Place::Output, page.as_bytes()),
+        None => Reply::message(
+            alloc,
+            Status::Usage,
+            &"there is no such refusal; they are numbered 1 to 19, 21 and 22",
+        ),
+    }
+}
+
+/// The call of mintc for a request, or the reply to one that is none.
 fn order_of(alloc: Global, asked: Request) -> Result<Order, Reply>
     ensures value { IfOk result (IsOrderOf asked) }
     ensures count { IfOk result (λ order. length order.call.files ≡ length (roles_of order.call.command)) }
     ensures in_range { IfOk result (λ order. IsNumberInRange order.call.command) }
     ensures on_files { IfOk result (λ order. IsOnFiles order.call.command) }
     ensures library { IfOk result (λ order. order.call.of_library ≡ true → 1 < length order.call.files) }
-    ensures reply { IfErr result (IsGapReply asked) }
+    ensures reply { IfErr result (IsOtherReply asked) }
 {
     match asked {
-        Request::Explain { .. } => Err(Reply::message(alloc, Status::Usage, &Gap::Explain)),
+        Request::Explain { topic } => Err(explanation_reply(alloc, &topic)),
         Request::OfDesign {
             task,
             design,

@@ -41,7 +41,6 @@ pub struct Call {
 /// What of a request is not there yet.
 #[derive(Clone, Copy, Debug, PartialEq, Eq)]
 pub enum Gap {
-    Explain,
     Sdc,
     Draw,
     /// The form of the answer.

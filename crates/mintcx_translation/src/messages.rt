@@ -8,7 +8,6 @@ impl Gap {
     /// What is said of it.
     fn text(self) -> &'static str {
         match self {
-            Gap::Explain => "'explain' isn't there yet; docs/refusals.md explains each refusal",
             Gap::Sdc => "'sdc' isn't there yet",
             Gap::Draw => "'draw' isn't there yet",
             Gap::Json => "'--format json' isn't there yet; text and plain are",
