@@ -1,5 +1,5 @@
 -- The replies to words, requests and calls.
-use Rattle.std.proofs.Common.{◌≡◌, ◌+◌, ◌<◌, ℕ, List, length, get_or, false, refl, sym, subst, inl, inr, Option, Result, Ok, Err, IfErr, Contains}
+use Rattle.std.proofs.Common.{◌≡◌, ◌+◌, ◌<◌, ℕ, List, length, get_or, false, refl, sym, subst, inl, inr, Option, Some, None, MatchOption, Result, Ok, Err, IfErr, Contains}
 use Rattle.std.proofs.lemmas.List.Elements.{Contains-get_or}
 use Rattle.mintc_text.specs.declared.limits.TheConstants.{MOST_BYTES}
 use Rattle.mintc_text.specs.Outside.{Files}
@@ -12,16 +12,23 @@ use Rattle.mintcx_requests.specs.declared.given.Given.{Given}
 use Rattle.mintcx_requests.specs.declared.requests.Request.{Request}
 use Rattle.mintcx_requests.specs.declared.requests.Request.TheVariants as request
 use Rattle.mintcx_project.specs.declared.project.Settings.{Settings}
+use Rattle.mintcx_explanations.specs.Explanations.{IsOfNumber, IsRefusalNumber, Names}
 use Rattle.mintcx_run.specs.declared.answers.Told.{Told}
 use Rattle.mintcx_run.specs.declared.orders.Order.{Order}
 use Rattle.mintcx_run.specs.declared.reply.Reply.{Reply}
-use Rattle.mintcx_run.specs.Replies.{AreUnread, IsCallReply, IsEarlyReply, IsExplanationReply, IsFrontsAnswer, IsFrontsRefusal, IsGiven, IsGivenReply, IsMessage, IsOrdered, IsOtherReply, IsPlaced, IsReply, IsSettings, IsUnread, IsWordsReply}
+use Rattle.mintcx_run.specs.Replies.{AreUnread, IsCallReply, IsEarlyReply, IsExplanationReply, IsFrontsAnswer, IsFrontsRefusal, IsGiven, IsGivenReply, IsMessage, IsOrdered, IsOtherReply, IsPageOf, IsPlaced, IsReply, IsSettings, IsUnread, IsWordsReply, NamesNone}
 
 -- an explanation is asked for, and given
 pub explained : (asked : Request) (topic : Text) (reply : Reply) → asked ≡ request.Explain topic → IsExplanationReply topic reply → IsOtherReply asked reply
 explained asked topic reply is h =
     let own : IsOtherReply (request.Explain topic) reply = h in
     subst (λ (x : Request). IsOtherReply x reply) (sym is) own
+
+-- the page of the number that a topic names
+pub page_found : {T : Type 0} (page : Option T) (text : T → Text) (topic : Text) (n : ℕ) → IsRefusalNumber n → Names topic n →
+    MatchOption page (IsRefusalNumber n → ⊥) (λ (x : T). IsRefusalNumber n × IsOfNumber n (text x)) → MatchOption page (NamesNone topic) (λ (x : T). IsPageOf topic (text x))
+page_found None text topic n is names h = absurd (h is)
+page_found (Some x) text topic n is names (same, of) = (n, is, names, of)
 
 -- so the request has no call
 pub early_gap : (r : Result Order Reply) (given : Given) (files : Option Files) (settings : Settings) (asked : Request) → IsSettings files given.project settings → request_of given settings ≡ Ok asked →

@@ -1,5 +1,5 @@
 //! From words to an order: a call of mintc, and how its answer is given.
-ghost use Rattle.std.specs.Prelude.{◌≡◌, ◌≢◌, ◌<◌, ◌≤◌, true, Ok, length, IfOk, IfErr};
+ghost use Rattle.std.specs.Prelude.{◌≡◌, ◌≢◌, ◌<◌, ◌≤◌, true, Ok, length, IfOk, IfErr, MatchOption};
 ghost use Rattle.mintc_text.specs.Outside.{Rose};
 ghost use Rattle.mintc_command.specs.Answers.{MakesAtMost};
 ghost use Rattle.mintc_command_answers.specs.Commands.{IsNumberInRange, roles_of};
@@ -60,7 +60,7 @@ fn design_order(
 
 /// The page of the refusal that a topic names.
 fn page_of(topic: &[u8]) -> Option<&'static str>
-    ensures { MatchOption result (NamesNone topic.now) (IsPageOf topic.now) }
+    ensures { MatchOption result (NamesNone topic.now) (λ page. IsPageOf topic.now page.now) }
 {
     explanation_of(topic_number(topic)?)
 }

@@ -360,6 +360,10 @@ const TABLE: Rows = Rows {
              alone\n|",
         ),
         ("mintcx --version", "0|mintcx 0.1.0\n||"),
+        (
+            "mintcx explain 20",
+            "3||error: there is no such refusal; they are numbered 1 to 19, 21 and 22\n|",
+        ),
         ("mintcx optimise", LEAST),
         ("mintcx report", REPORT),
         ("mintcx safe", SAFE),
