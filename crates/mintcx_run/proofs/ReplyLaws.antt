@@ -1,12 +1,12 @@
 -- The replies to words, requests and calls.
-use Rattle.std.proofs.Common.{◌≡◌, ◌+◌, ◌<◌, ℕ, List, length, get_or, false, refl, sym, subst, inl, inr, Option, Some, None, MatchOption, Result, Ok, Err, IfErr, Contains}
+use Rattle.std.proofs.Common.{arith, ◌≡◌, ◌+◌, ◌<◌, ℕ, List, length, get_or, false, refl, sym, subst, inl, inr, Option, Some, None, MatchOption, Result, Ok, Err, IfErr, Contains}
 use Rattle.std.proofs.lemmas.List.Elements.{Contains-get_or}
 use Rattle.mintc_text.specs.declared.limits.TheConstants.{MOST_BYTES}
 use Rattle.mintc_text.specs.Outside.{Files}
 use Rattle.mintc_command.specs.Answers.{AreFronts, MakesAtMost}
 use Rattle.mintc_command.proofs.SharedCalls.{MakesAtMost-none, MakesAtMost-sum}
 use Rattle.mintc_text.specs.declared.refusals.Refusal.{Refusal}
-use Rattle.mintc_command_answers.specs.declared.status.Status.TheVariants.{Refused, Usage}
+use Rattle.mintc_command_answers.specs.declared.status.Status.TheVariants.{Usage}
 use Rattle.mintcx_requests.specs.Requests.{Text, request_of}
 use Rattle.mintcx_requests.specs.declared.given.Given.{Given}
 use Rattle.mintcx_requests.specs.declared.requests.Request.{Request}
@@ -16,7 +16,7 @@ use Rattle.mintcx_explanations.specs.Explanations.{IsOfNumber, IsRefusalNumber, 
 use Rattle.mintcx_run.specs.declared.answers.Told.{Told}
 use Rattle.mintcx_run.specs.declared.orders.Order.{Order}
 use Rattle.mintcx_run.specs.declared.reply.Reply.{Reply}
-use Rattle.mintcx_run.specs.Replies.{AreUnread, IsCallReply, IsEarlyReply, IsExplanationReply, IsFrontsAnswer, IsFrontsRefusal, IsGiven, IsGivenReply, IsMessage, IsOrdered, IsOtherReply, IsPageOf, IsPlaced, IsReply, IsSettings, IsUnread, IsWordsReply, NamesNone}
+use Rattle.mintcx_run.specs.Replies.{AreUnread, IsCallReply, IsEarlyReply, IsExplanationReply, IsFrontsAnswer, IsFrontsRefusal, IsGiven, IsGivenReply, IsMessage, IsOrdered, IsOtherReply, IsPageOf, IsPlaced, IsRefusalReply, IsReply, IsSettings, IsUnread, IsWordsReply, NamesNone}
 
 -- an explanation is asked for, and given
 pub explained : (asked : Request) (topic : Text) (reply : Reply) → asked ≡ request.Explain topic → IsExplanationReply topic reply → IsOtherReply asked reply
@@ -46,14 +46,18 @@ pub call_told : (files : Option Files) (order : Order) (fronts : List Text) (tol
 call_told files order fronts told reply are h placed = inr (fronts, are, inr (inl (told, h, placed)))
 
 pub call_refused : (files : Option Files) (order : Order) (fronts : List Text) (refused : Refusal) (reply : Reply) → AreFronts files (MOST_BYTES + 1) order.call.files fronts → IsFrontsRefusal order fronts refused →
-    IsMessage Refused reply → IsCallReply files order reply
+    IsRefusalReply files order refused reply → IsCallReply files order reply
 call_refused files order fronts refused reply are h said = inr (fronts, are, inr (inr (refused, h, said)))
 
 -- with one read for the project file, and one for each file
 pub given_answered : (given : Given) (files : Option Files) (order : Order) (reply : Reply) (a b c : Option ℕ) → IsOrdered given files order → IsCallReply files order reply →
-    MakesAtMost 1 a b → MakesAtMost (length order.call.files) b c → (reads : ℕ) × IsGivenReply given files reads reply × MakesAtMost reads a c
+    MakesAtMost 1 a b → MakesAtMost (length order.call.files + 1) b c → (reads : ℕ) × IsGivenReply given files reads reply × MakesAtMost reads a c
 given_answered given files order reply a b c ordered h first rest =
-    (1 + length order.call.files, inr (order, refl, ordered, h), MakesAtMost-sum 1 (length order.call.files) a b c first rest)
+    let most : 1 + (length order.call.files + 1) ≡ 2 + length order.call.files = omega arith in (
+      2 + length order.call.files,
+      inr (order, refl, ordered, h),
+      subst (λ (n : ℕ). MakesAtMost n a c) most (MakesAtMost-sum 1 (length order.call.files + 1) a b c first rest),
+    )
 
 -- words that give something, and those that give nothing
 pub words_given : (words : List Text) (given : Given) (files : Option Files) (reply : Reply) (a b : Option ℕ) → IsGiven words given →

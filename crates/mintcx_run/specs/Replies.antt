@@ -1,5 +1,5 @@
 -- What a run replies to its words, over the files of a shelf, and what it leaves.
-use Rattle.std.specs.Prelude.{◌≡◌, ◌<◌, ◌≤◌, ◌+◌, ◌⊎◌, ℕ, List, length, slice_set, Option, Some, None}
+use Rattle.std.specs.Prelude.{◌≡◌, ◌<◌, ◌≤◌, ◌+◌, ◌⊎◌, ℕ, List, [], length, slice_set, slice_index_or, Option, Some, None}
 use Rattle.std.specs.Prelude.{Bool, true, false, ◌&&◌, not, Ok, Err, Contains, IsUtf8, codes, if◌then◌else◌}
 use Rattle.clap.specs.Words.{App}
 use Rattle.mintc_text.specs.Limits.{large}
@@ -22,6 +22,11 @@ use Rattle.mintc_command_answers.specs.declared.status.Status.{Status}
 use Rattle.mintc_command_answers.specs.declared.status.Status.TheVariants.{Done, Refused, Usage, ReadFault}
 use Rattle.mintc_command_answers.specs.declared.status.Status.TheVariants.{OutOfMemory}
 use Rattle.mintcx_explanations.specs.Explanations.{IsOfNumber, IsRefusalNumber, Names}
+use Rattle.mintc_command_answers.specs.Commands.{roles_of}
+use Rattle.mintcx_refusals.specs.Files.{IsFile}
+use Rattle.mintcx_refusals.specs.Messages as messages
+use Rattle.mintcx_manners.specs.declared.manners.Detail.{Detail}
+use Rattle.mintcx_manners.specs.declared.manners.Detail.TheVariants as detail
 use Rattle.mintcx_manners.specs.declared.manners.Format.{Format}
 use Rattle.mintcx_manners.specs.declared.manners.Format.TheVariants as format
 use Rattle.mintcx_project.specs.Projects.{IsFaultOf, Says, no_settings}
@@ -284,18 +289,50 @@ abbrev pub IsFrontsRefusal : Order → List Text → Refusal → Type 0
 IsFrontsRefusal order fronts refused = ((order.call.of_library ≡ false) × IsRefused order fronts refused)
     ⊎ ((order.call.of_library ≡ true) × IsRefusalOfLibrary order fronts refused)
 
+-- ---- refusals, as they are told
+
+-- The first bytes of the file that a refusal speaks of, one more than a file may have; or none.
+abbrev pub IsRefusedFile : Option Files → Order → Refusal → Text → Type 0
+IsRefusedFile files order refused file = (file ≡ []) ⊎ ((n : ℕ) × IsFile (roles_of order.call.command) refused n
+    × IsFront files (slice_index_or order.call.files n []) (MOST_BYTES + 1) file)
+
+-- what is said of a refusal, with the bytes of the file that it speaks of: over several lines, or in one
+abbrev pub IsTextOfRefusal : Detail → Order → Text → Refusal → Text → Type 0
+IsTextOfRefusal detail.Full order file refused text =
+    messages.IsMessage (roles_of order.call.command) order.call.files file refused text
+IsTextOfRefusal detail.Short order file refused text =
+    messages.IsShortMessage (roles_of order.call.command) order.call.files file refused text
+
+abbrev pub IsRefusalText : Order → Text → Refusal → Text → Type 0
+IsRefusalText order file refused text = IsTextOfRefusal order.manner.detail order file refused text
+
+-- a refusal is told, by a message for the second sink
+pub record IsToldRefusal (files : Option Files) (order : Order) (refused : Refusal) (reply : Reply) : Type 0 where
+  pub file : Text
+  pub is_file : IsRefusedFile files order refused file
+  pub is_text : IsRefusalText order file refused reply.text
+  pub status : reply.status ≡ Refused
+  pub place : reply.place ≡ place.Errors
+  pub beside : reply.beside ≡ None
+
+-- that, or memory was wanting
+abbrev pub IsRefusalReply : Option Files → Order → Refusal → Reply → Type 0
+IsRefusalReply files order refused reply = IsOutOfMemory reply ⊎ IsToldRefusal files order refused reply
+
+-- ---- the reply
+
 -- the answer, where its order wants it; or why there is none, as a message; or memory was wanting
-abbrev pub IsFrontsReply : Order → List Text → Reply → Type 0
-IsFrontsReply order fronts reply = IsOutOfMemory reply
+abbrev pub IsFrontsReply : Option Files → Order → List Text → Reply → Type 0
+IsFrontsReply files order fronts reply = IsOutOfMemory reply
     ⊎ (((told : Told) × IsFrontsAnswer order fronts told × IsPlaced order told reply)
-    ⊎ ((refused : Refusal) × IsFrontsRefusal order fronts refused × IsMessage Refused reply))
+    ⊎ ((refused : Refusal) × IsFrontsRefusal order fronts refused × IsRefusalReply files order refused reply))
 
 -- The reply to a call of mintc over the files of a shelf: a file can't be read, or the answer in its form, of the first
 -- bytes of the files, one more than a file may have.
 abbrev pub IsCallReply : Option Files → Order → Reply → Type 0
 IsCallReply files order reply = AreUnread order.call.files reply
     ⊎ ((fronts : List Text) × AreFronts files (MOST_BYTES + 1) order.call.files fronts
-    × IsFrontsReply order fronts reply)
+    × IsFrontsReply files order fronts reply)
 
 -- What the words give and a project file are this call.
 pub record IsOrdered (given : Given) (files : Option Files) (order : Order) : Type 0 where
@@ -315,11 +352,11 @@ abbrev pub IsEarlyReply : Given → Option Files → Reply → Type 0
 IsEarlyReply given files reply = IsSettingsReply files given.project reply
     ⊎ ((settings : Settings) × IsSettings files given.project settings × IsRequestReply given settings reply)
 
--- The reply to what the words give, with at most so many reads: one of the project file, and one of each file of a
--- call.
+-- The reply to what the words give, with at most so many reads: one of the project file, one of each file of a call,
+-- and one more of the file that is refused.
 abbrev pub IsGivenReply : Given → Option Files → ℕ → Reply → Type 0
 IsGivenReply given files reads reply = ((reads ≡ 1) × IsEarlyReply given files reply)
-    ⊎ ((order : Order) × (reads ≡ 1 + length order.call.files) × IsOrdered given files order
+    ⊎ ((order : Order) × (reads ≡ 2 + length order.call.files) × IsOrdered given files order
     × IsCallReply files order reply)
 
 -- The reply of a run to its words over the files of a shelf, with at most so many reads: none where the words give

@@ -1,5 +1,5 @@
 //! From words to the reply.
-ghost use Rattle.std.specs.Prelude.{◌≡◌, ◌≢◌, ◌<◌, ◌≤◌, ℕ, true, length, map, string_bytes};
+ghost use Rattle.std.specs.Prelude.{◌≡◌, ◌≢◌, ◌<◌, ◌≤◌, ◌+◌, ℕ, true, length, map, string_bytes};
 ghost use Rattle.mintc_text.specs.Outside.{Rose};
 ghost use Rattle.mintc_command.specs.Answers.{MakesAtMost};
 ghost use Rattle.mintc_command_answers.specs.Commands.{IsNumberInRange, roles_of};
@@ -63,7 +63,7 @@ fn call_reply<S: Shelf>(alloc: Global, order: Order, shelf: &mut S) -> Reply
     ensures same { S.files shelf.new ≡ S.files shelf.old }
     ensures later { S.faults shelf.old ≤ S.faults shelf.new }
     ensures cause { result.status ≡ ReadFault → Rose (S.faults shelf.old) (S.faults shelf.new) }
-    ensures reads { MakesAtMost (length order.call.files) (S.calls shelf.old) (S.calls shelf.new) }
+    ensures reads { MakesAtMost (length order.call.files + 1) (S.calls shelf.old) (S.calls shelf.new) }
 {
     let mut files = match read_files(alloc, shelf, order.call.files.items()) {
         Ok(files) => files,
@@ -71,7 +71,7 @@ fn call_reply<S: Shelf>(alloc: Global, order: Order, shelf: &mut S) -> Reply
     };
     match fronts_answer(alloc, &order, files.as_mut_slice()) {
         Ok(told) => placed(order, told),
-        Err(Stop::Refused(refusal)) => refused(alloc, &refusal),
+        Err(Stop::Refused(refusal)) => refused(alloc, &order, &refusal, shelf),
         Err(Stop::OutOfMemory) => Reply::out_of_memory(alloc),
     }
 }

@@ -1,59 +1,74 @@
 //! Refusals, as they are told to people.
-ghost use Rattle.std.specs.Prelude.{◌≡◌};
-ghost use Rattle.mintc_text.specs.Refusals.{refusal_number};
-ghost use Rattle.mintcx_run.specs.Replies.{IsMessage};
+ghost use Rattle.std.specs.Prelude.{◌≡◌, ◌≢◌, ◌≤◌, length, IfOk};
+ghost use Rattle.mintc_text.specs.Outside.{Rose};
+ghost use Rattle.mintc_command.specs.Answers.{MakesAtMost};
+ghost use Rattle.mintc_command_answers.specs.Commands.{IsNumberInRange, roles_of};
+ghost use Rattle.mintcx_run.specs.Replies.{IsRefusalReply, IsRefusalText, IsRefusedFile};
 
+use crate::orders::Order;
+use crate::reading::read_file;
 use crate::reply::{Place, Reply};
 use mintc_command_answers::Status;
-use mintc_report::refusal_text;
-use mintc_text::{Lines, OutOfMemory, Refusal};
+use mintc_text::{Bytes, OutOfMemory, Refusal, Shelf};
+use mintcx_manners::Detail;
+use mintcx_refusals::{Inputs, file_of, refusal_message, short_message};
 use std::alloc::Global;
 
-/// The number of a refusal.
-fn number_of(refusal: &Refusal) -> u32
-    ensures { result ≡ refusal_number refusal.now }
+/// The first bytes of the file that a refusal speaks of, read once more; none where it speaks of none, or where that
+/// file can't be read any more.
+fn refused_file<S: Shelf>(alloc: Global, order: &Order, refusal: &Refusal, shelf: &mut S) -> Bytes
+    requires in_range { IsNumberInRange order.now.call.command }
+    requires names { length order.now.call.files ≡ length (roles_of order.now.call.command) }
+    ensures file { IsRefusedFile (S.files shelf.old) order.now refusal.now result }
+    ensures same { S.files shelf.new ≡ S.files shelf.old }
+    ensures later { S.faults shelf.old ≤ S.faults shelf.new }
+    ensures reads { MakesAtMost 1 (S.calls shelf.old) (S.calls shelf.new) }
 {
-    match refusal {
-        Refusal::Syntax { .. } => 1,
-        Refusal::TooLong { .. } => 2,
-        Refusal::NameTwice { .. } => 3,
-        Refusal::NoModule { .. } => 4,
-        Refusal::Recursive { .. } => 5,
-        Refusal::NoPin { .. } => 6,
-        Refusal::Width { .. } => 7,
-        Refusal::TwoDrivers { .. } => 8,
-        Refusal::TopUnclear { .. } => 9,
-        Refusal::NoInstance { .. } => 10,
-        Refusal::NoArc { .. } => 11,
-        Refusal::Negative { .. } => 12,
-        Refusal::BadCell { .. } => 13,
-        Refusal::BadClock { .. } => 14,
-        Refusal::NoPhase { .. } => 15,
-        Refusal::CombinationalLoop { .. } => 16,
-        Refusal::Limit { .. } => 17,
-        Refusal::Range { .. } => 18,
-        Refusal::PhaseMismatch { .. } => 19,
-        Refusal::PathRange { .. } => 21,
-        Refusal::Corner { .. } => 22,
+    if let Some(at) = file_of(order.call.command.roles(), refusal) {
+        if let Ok(file) = read_file(alloc, shelf, &order.call.files.items()[at]) {
+            return file;
+        }
+    }
+    Bytes::new(Vec::new(alloc))
+}
+
+/// What is said of a refusal, with the bytes of the file that it speaks of.
+fn said(alloc: Global, order: &Order, refusal: &Refusal, file: &[u8]) -> Result<Bytes, OutOfMemory>
+    requires in_range { IsNumberInRange order.now.call.command }
+    ensures { IfOk result (IsRefusalText order.now file.now refusal.now) }
+{
+    let inputs = Inputs {
+        roles: order.call.command.roles(),
+        names: order.call.files.items(),
+    };
+    match order.manner.detail {
+        Detail::Full => refusal_message(alloc, refusal, &inputs, file),
+        Detail::Short => short_message(alloc, refusal, &inputs, file),
     }
 }
 
-/// What is said of a refusal: its number, and mintc's own line.
-fn said(alloc: Global, refusal: &Refusal) -> Result<Vec<u8>, OutOfMemory> {
-    let mut lines = Lines::new(alloc);
-    lines.put(b"error[")?;
-    lines.number(i128::from(number_of(refusal)))?;
-    lines.put(b"]: ")?;
-    lines.put(&refusal_text(alloc, refusal)?)?;
-    Ok(lines.into_bytes())
-}
-
 /// The reply that the files are refused.
-pub(crate) fn refused(alloc: Global, refusal: &Refusal) -> Reply
-    ensures { IsMessage Status.Refused result }
+pub(crate) fn refused<S: Shelf>(
+    alloc: Global,
+    order: &Order,
+    refusal: &Refusal,
+    shelf: &mut S,
+) -> Reply
+    requires in_range { IsNumberInRange order.now.call.command }
+    requires names { length order.now.call.files ≡ length (roles_of order.now.call.command) }
+    ensures reply { IsRefusalReply (S.files shelf.old) order.now refusal.now result }
+    ensures same { S.files shelf.new ≡ S.files shelf.old }
+    ensures later { S.faults shelf.old ≤ S.faults shelf.new }
+    ensures reads { MakesAtMost 1 (S.calls shelf.old) (S.calls shelf.new) }
 {
-    match said(alloc, refusal) {
-        Ok(text) => Reply::saying(alloc, Status::Refused, Place::Errors, &text),
+    let file = refused_file(alloc, order, refusal, shelf);
+    match said(alloc, order, refusal, file.items()) {
+        Ok(text) => Reply {
+            status: Status::Refused,
+            place: Place::Errors,
+            text,
+            beside: None,
+        },
         Err(OutOfMemory) => Reply::out_of_memory(alloc),
     }
 }

@@ -9,4 +9,4 @@ returns-in-Ok-fronts_answer-clause-reply g c =
 pub returns-in-Err-Refused-clause-reply : goal.returns-in-Err-Refused-clause-reply
 returns-in-Err-Refused-clause-reply g c =
     call_refused _ c.args.order c.in-Ok.files.items c.in-Err-Refused.refusal c.refused.result (rw c.items.ensures at c.in-Ok.ensures.fronts)
-    (rw (c.as_mut_slice.ensures.value, c.in-Err-Refused.field-0-is) at c.in-Err-Refused.ensures.stop) c.refused.ensures
+    (rw (c.as_mut_slice.ensures.value, c.in-Err-Refused.field-0-is) at c.in-Err-Refused.ensures.stop) (rw c.in-Ok.ensures.same at c.refused.ensures.reply)

@@ -1,0 +1,3 @@
+mod FeedLaws
+mod ShownLaws
+mod TurnLaws

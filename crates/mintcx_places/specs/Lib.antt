@@ -1,0 +1,4 @@
+-- What contracts of public calls say:
+pub mod Lines
+pub mod Statements
+pub mod Excerpts

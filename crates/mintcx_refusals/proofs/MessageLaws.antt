@@ -1,0 +1,30 @@
+-- Messages in their parts.
+use Rattle.std.proofs.Common.{◌≡◌, ℕ, List, [], ◌++◌, Option, Some, None, ap, subst, sym, ◌∙◌}
+use Rattle.std.specs.Prelude.{IfNone, IfSome}
+use Rattle.mintc_text.specs.declared.refusals.Refusal.{Refusal}
+use Rattle.mintcx_places.specs.declared.excerpts.Excerpt.{Excerpt}
+use Rattle.mintcx_places.specs.declared.lines.Spot.{Spot}
+use Rattle.mintcx_refusals.specs.declared.places.Place.{Place}
+use Rattle.mintcx_refusals.specs.Messages.{IsExcerptAt, IsExcerptOf, IsSpotAt, IsSpotOf}
+use Rattle.mintcx_refusals.specs.Places.{HasNoPlace, IsPlace}
+use Rattle.mintcx_refusals.proofs.WrittenLaws.{in_two, in_four}
+
+-- the excerpt of the place of a refusal is that of the refusal
+pub excerpt_is : (file : List ℕ) (refused : Refusal) (place : Option Place) (excerpt : Option Excerpt) → IfSome place (IsPlace file refused) →
+    IfNone place (HasNoPlace file refused) → IsExcerptAt file place excerpt → IsExcerptOf file refused excerpt
+excerpt_is file refused None excerpt some none is = let P : Option Excerpt → Type 0 = IsExcerptOf file refused in subst P (sym is) none
+excerpt_is file refused (Some place) excerpt some none is =
+    let P : Option Excerpt → Type 0 = IsExcerptOf file refused in subst P (sym is.1) (place, some, is.2)
+
+pub spot_is : (file : List ℕ) (refused : Refusal) (place : Option Place) (spot : Option Spot) → IfSome place (IsPlace file refused) →
+    IfNone place (HasNoPlace file refused) → IsSpotAt file place spot → IsSpotOf file refused spot
+spot_is file refused None spot some none is = let P : Option Spot → Type 0 = IsSpotOf file refused in subst P (sym is) none
+spot_is file refused (Some place) spot some none is =
+    let P : Option Spot → Type 0 = IsSpotOf file refused in subst P (sym is.1) (place, some, is.2)
+
+-- four parts from the start, and two
+pub made : {z a b c new : List ℕ} (p q r s : List ℕ) → z ≡ [] → a ≡ z ++ p → b ≡ a ++ q → c ≡ b ++ r → new ≡ c ++ s → new ≡ p ++ q ++ r ++ s
+made p q r s e f g h i = in_four [] p q r s (f ∙ ap (λ v. v ++ p) e) g h i
+
+pub made_of_two : {z a new : List ℕ} (p q : List ℕ) → z ≡ [] → a ≡ z ++ p → new ≡ a ++ q → new ≡ p ++ q
+made_of_two p q e f g = in_two [] p q (f ∙ ap (λ v. v ++ p) e) g

@@ -1,0 +1,4 @@
+-- What contracts of public calls say:
+pub mod Files
+pub mod Places
+pub mod Messages

@@ -1,0 +1,120 @@
+-- Messages of refusals.
+use Rattle.std.specs.Prelude.{◌≡◌, ℕ, List, [], ◌∷◌, ◌++◌, Option, Some, None, MatchOption, codes, decimal, length}
+use Rattle.std.specs.Prelude.{replicate}
+use Rattle.mintc_text.specs.declared.refusals.Role.{Role}
+use Rattle.mintc_text.specs.declared.refusals.Refusal.{Refusal}
+use Rattle.mintc_text.specs.Lines.{words}
+use Rattle.mintc_text.specs.Refusals.{refusal_fields, refusal_number}
+use Rattle.mintcx_places.specs.declared.excerpts.Excerpt.{Excerpt}
+use Rattle.mintcx_places.specs.declared.lines.Spot.{Spot}
+use Rattle.mintcx_places.specs.Excerpts.{IsExcerpt}
+use Rattle.mintcx_places.specs.Lines.{IsSpot}
+use Rattle.mintcx_refusals.specs.declared.places.Place.{Place}
+use Rattle.mintcx_refusals.specs.Files.{IsNameOf}
+use Rattle.mintcx_refusals.specs.Places.{HasNoPlace, IsPlace}
+
+-- what a message begins with: the number of its refusal
+abbrev pub head : Refusal → List ℕ
+head refused = codes "error[" ++ decimal (refusal_number refused) ++ codes "]: "
+
+-- mintc's own line of a refusal, without its line feed
+abbrev pub own_line : Refusal → List ℕ
+own_line refused = words (codes "refused" ∷ decimal (refusal_number refused) ∷ refusal_fields refused)
+
+-- what a message ends with: mintc's own line, and where more is said
+abbrev pub note : Refusal → List ℕ
+note refused =
+    codes "= note: `" ++ own_line refused ++ codes "`; `mintcx explain " ++ decimal (refusal_number refused)
+    ++ codes "` says more" ++ 10 ∷ []
+
+-- a file, a line and a column
+abbrev pub spot_text : List ℕ → Spot → List ℕ
+spot_text name spot = name ++ codes ":" ++ decimal spot.line ++ codes ":" ++ decimal spot.column
+
+-- blanks, as many as a number has digits
+abbrev pub margin : ℕ → List ℕ
+margin number = replicate (length (decimal number)) 32
+
+-- where an excerpt is from
+abbrev pub arrow_text : List ℕ → List ℕ → Spot → List ℕ
+arrow_text blanks name spot = blanks ++ codes "--> " ++ spot_text name spot ++ 10 ∷ []
+
+-- a line behind its number
+abbrev pub line_text : List ℕ → List ℕ → List ℕ
+line_text number line = number ++ codes " | " ++ line ++ 10 ∷ []
+
+-- marks below a line, and a label behind them
+abbrev pub marks_text : List ℕ → ℕ → ℕ → List ℕ → List ℕ
+marks_text blanks caret marks label =
+    blanks ++ codes " | " ++ replicate caret 32 ++ replicate marks 94 ++ label ++ 10 ∷ []
+
+-- an excerpt: where it is from, the line behind its number, and the marks with their label
+abbrev pub excerpt_text : List ℕ → Excerpt → List ℕ → List ℕ
+excerpt_text name e label =
+    arrow_text (margin e.spot.line) name e.spot
+    ++ line_text (decimal e.spot.line) e.line
+    ++ marks_text (margin e.spot.line) e.caret e.marks label
+
+-- a file alone, if there is one
+abbrev pub file_text : List ℕ → List ℕ
+file_text [] = []
+file_text (b ∷ bs) = codes " --> " ++ (b ∷ bs) ++ 10 ∷ []
+
+-- the place, as it is shown: with an excerpt, or else its file alone
+abbrev pub place_text : List ℕ → Option Excerpt → List ℕ → List ℕ
+place_text name None label = file_text name
+place_text name (Some e) label = excerpt_text name e label
+
+-- the excerpt is that of a place, and the spot is where a place begins; there is none where there is no place
+abbrev pub IsExcerptAt : List ℕ → Option Place → Option Excerpt → Type 0
+IsExcerptAt file None excerpt = excerpt ≡ None
+IsExcerptAt file (Some place) excerpt = (e : Excerpt) × (excerpt ≡ Some e) × IsExcerpt file place.range e
+
+abbrev pub IsSpotAt : List ℕ → Option Place → Option Spot → Type 0
+IsSpotAt file None spot = spot ≡ None
+IsSpotAt file (Some place) spot = (s : Spot) × (spot ≡ Some s) × IsSpot file place.range.from s
+
+-- the excerpt is that of the place of which a refusal speaks; there is none where no place is known
+abbrev pub IsExcerptOf : List ℕ → Refusal → Option Excerpt → Type 0
+IsExcerptOf file refused excerpt =
+    MatchOption excerpt (HasNoPlace file refused)
+    (λ e. (place : Place) × IsPlace file refused place × IsExcerpt file place.range e)
+
+-- The message of a refusal: what it is, behind its number; where, in the file that it speaks of; some advice; and
+-- mintc's own line.
+pub record IsMessage (roles : List Role) (names : List (List ℕ)) (file : List ℕ) (refused : Refusal) (text : List
+    ℕ) : Type 0 where
+  pub what : List ℕ
+  pub name : List ℕ
+  pub excerpt : Option Excerpt
+  pub label : List ℕ
+  pub advice : List ℕ
+  pub is_name : IsNameOf roles names refused name
+  pub is_excerpt : IsExcerptOf file refused excerpt
+  pub whole : text ≡ (((head refused ++ what ++ 10 ∷ []) ++ place_text name excerpt label) ++ advice) ++ note refused
+
+-- a file as a line begins with it, if there is one
+abbrev pub short_file : List ℕ → List ℕ
+short_file [] = []
+short_file (b ∷ bs) = (b ∷ bs) ++ codes ": "
+
+-- a place as a line begins with it: file, line and column, or else the file alone
+abbrev pub short_place : List ℕ → Option Spot → List ℕ
+short_place name None = short_file name
+short_place name (Some spot) = spot_text name spot ++ codes ": "
+
+-- the spot is where the place begins of which a refusal speaks
+abbrev pub IsSpotOf : List ℕ → Refusal → Option Spot → Type 0
+IsSpotOf file refused spot =
+    MatchOption spot (HasNoPlace file refused)
+    (λ s. (place : Place) × IsPlace file refused place × IsSpot file place.range.from s)
+
+-- The message of a refusal in one line: where, and what it is, behind its number.
+pub record IsShortMessage (roles : List Role) (names : List (List ℕ)) (file : List ℕ) (refused : Refusal) (text : List
+    ℕ) : Type 0 where
+  pub name : List ℕ
+  pub spot : Option Spot
+  pub what : List ℕ
+  pub is_name : IsNameOf roles names refused name
+  pub is_spot : IsSpotOf file refused spot
+  pub whole : text ≡ short_place name spot ++ (head refused ++ what ++ 10 ∷ [])

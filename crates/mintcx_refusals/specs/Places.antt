@@ -1,0 +1,59 @@
+-- The place in its file that a refusal speaks of.
+use Rattle.std.specs.Prelude.{◌≡◌, ℕ, ◌-◌, ◌⊎◌, true, false, List}
+use Rattle.mintc_text.specs.declared.refusals.Role.TheVariants as role
+use Rattle.mintc_text.specs.declared.refusals.Refusal.{Refusal}
+use Rattle.mintc_text.specs.declared.refusals.Refusal.TheVariants as refusal
+use Rattle.mintcx_places.specs.declared.lines.Range.{Range}
+use Rattle.mintcx_places.specs.Lines.{HasNoLine, IsNumbered}
+use Rattle.mintcx_places.specs.Statements.{HasNoStatement, IsStatement}
+use Rattle.mintcx_refusals.specs.declared.places.Place.{Place}
+use Rattle.mintcx_refusals.specs.declared.places.Pointer.{Pointer}
+use Rattle.mintcx_refusals.specs.declared.places.Pointer.TheVariants.{Statement, Line, Nowhere}
+
+-- what is pointed at: a statement of the netlist, a line of a table, a schedule or a certificate, or no place that is
+-- known; a schedule says on line 4 how many phases it has
+abbrev pub pointer_of : Refusal → Pointer
+pointer_of (refusal.Syntax role.Netlist entry) = Statement entry
+pointer_of (refusal.Syntax role.Table entry) = Line entry
+pointer_of (refusal.Syntax role.Schedule entry) = Line entry
+pointer_of (refusal.Syntax role.Certificate entry) = Line entry
+pointer_of (refusal.NameTwice entry) = Statement entry
+pointer_of (refusal.NoModule entry) = Statement entry
+pointer_of (refusal.Recursive entry) = Statement entry
+pointer_of (refusal.NoPin entry) = Statement entry
+pointer_of (refusal.Width entry) = Statement entry
+pointer_of (refusal.TwoDrivers entry) = Statement entry
+pointer_of (refusal.PhaseMismatch design schedule) = Line 4
+pointer_of _ = Nowhere
+
+-- the statement or the line before
+abbrev pub before : Pointer → Pointer
+before (Statement n) = Statement (n - 1)
+before (Line n) = Line (n - 1)
+before Nowhere = Nowhere
+
+-- a range is that of what is pointed at
+abbrev pub IsAt : List ℕ → Pointer → Range → Type 0
+IsAt file (Statement n) range = IsStatement file n range
+IsAt file (Line n) range = IsNumbered file n range
+IsAt file Nowhere range = ⊥
+
+-- the file has nothing that is pointed at
+abbrev pub HasNone : List ℕ → Pointer → Type 0
+HasNone file (Statement n) = HasNoStatement file n
+HasNone file (Line n) = HasNoLine file n
+HasNone file Nowhere = Unit {0}
+
+-- a place is that of what is pointed at, or of the last before, where the file ends too soon
+abbrev pub IsPlaceAt : List ℕ → Pointer → Place → Type 0
+IsPlaceAt file pointer place =
+    ((place.is_last ≡ false) × IsAt file pointer place.range)
+    ⊎ ((place.is_last ≡ true) × HasNone file pointer × IsAt file (before pointer) place.range)
+
+-- the place that a refusal speaks of, in its file
+abbrev pub IsPlace : List ℕ → Refusal → Place → Type 0
+IsPlace file refused place = IsPlaceAt file (pointer_of refused) place
+
+-- a refusal speaks of no place of its file that is known
+abbrev pub HasNoPlace : List ℕ → Refusal → Type 0
+HasNoPlace file refused = HasNone file (pointer_of refused) × HasNone file (before (pointer_of refused))

@@ -1,0 +1,23 @@
+//! The messages of refusals, for people.
+//!
+//! mintc says `refused 8 12`. Here that becomes what is wrong, the file, the line and the column, the line itself with
+//! marks below it, why it is refused and what helps, and at the end mintc's own line. `file_of` tells which file of the
+//! command a refusal speaks of, so that the caller reads that file alone once more; `refusal_message` and
+//! `short_message` take its bytes. A place is shown where it is known: statements of the netlist, and lines of tables,
+//! schedules and certificates.
+#![tactic(auto)]
+
+mod advice;
+mod cases;
+mod counts;
+mod files;
+mod messages;
+mod places;
+#[cfg(test)]
+mod tests;
+mod whats;
+mod writing;
+
+pub use files::{Inputs, file_of};
+pub use messages::{refusal_message, short_message};
+pub use writing::refusal_number;

@@ -1,0 +1,104 @@
+//! The message of a refusal, whole or in one line.
+ghost use Rattle.std.specs.Prelude.{◌≤◌, IfOk, IfSome, length};
+ghost use Rattle.mintcx_refusals.specs.Messages.{IsExcerptAt, IsMessage, IsShortMessage, IsSpotAt};
+
+use crate::advice::{advice_of, label_of};
+use crate::cases::Case;
+use crate::files::{Inputs, name_of};
+use crate::places::{Place, place_of};
+use crate::whats::what_of;
+use crate::writing::{digits_of, put_head, put_note, put_place, put_short_place};
+use mintc_text::{Bytes, Lines, OutOfMemory, Refusal};
+use mintcx_places::{Excerpt, Spot, excerpt_of, spot_of};
+use std::alloc::Global;
+
+/// The excerpt of a place, if there is one.
+fn excerpt_at(
+    alloc: Global,
+    file: &[u8],
+    place: Option<Place>,
+) -> Result<Option<Excerpt>, OutOfMemory>
+    requires { IfSome place (λ p. p.range.from ≤ length file.now) }
+    ensures { IfOk result (IsExcerptAt file.now place) }
+{
+    match place {
+        Some(place) => Ok(Some(excerpt_of(alloc, file, &place.range)?)),
+        None => Ok(None),
+    }
+}
+
+/// Where a place begins, if there is one.
+fn spot_at(file: &[u8], place: Option<Place>) -> Option<Spot>
+    requires { IfSome place (λ p. p.range.from ≤ length file.now) }
+    ensures { IsSpotAt file.now place result }
+{
+    match place {
+        Some(place) => Some(spot_of(file, place.range.from)),
+        None => None,
+    }
+}
+
+/// How many blanks stand before the parts of a message: as many as the number of the line has digits.
+fn margin_of(alloc: Global, excerpt: &Option<Excerpt>) -> Result<usize, OutOfMemory> {
+    match excerpt {
+        Some(excerpt) => {
+            let digits = digits_of(alloc, excerpt.spot.line)?;
+            Ok(digits.items().len())
+        }
+        None => Ok(0),
+    }
+}
+
+/// The message of a refusal, over several lines: its number and what it is; the file, the line and the column, and the
+/// line itself with marks below it, as far as the place is known; why it is refused, and what helps; and mintc's own
+/// line. `file` is what `file_of` says, read once more, or empty where that can't be had.
+pub fn refusal_message(
+    alloc: Global,
+    refusal: &Refusal,
+    inputs: &Inputs<'_>,
+    file: &[u8],
+) -> Result<Bytes, OutOfMemory>
+    ensures { IfOk result (IsMessage inputs.now.roles.now inputs.now.names.now file.now refusal.now) }
+{
+    let place = place_of(file, refusal);
+    let name = name_of(inputs, refusal);
+    let excerpt = excerpt_at(alloc, file, place)?;
+    let case = Case {
+        refusal,
+        inputs,
+        file,
+        place,
+    };
+    let what = what_of(alloc, &case)?;
+    let advice = advice_of(alloc, &case, margin_of(alloc, &excerpt)?)?;
+    let mut lines = Lines::new(alloc);
+    put_head(&mut lines, refusal, what.items())?;
+    put_place(alloc, &mut lines, name, &excerpt, label_of(&case))?;
+    lines.put(advice.items())?;
+    put_note(alloc, &mut lines, refusal)?;
+    Ok(Bytes::new(lines.into_bytes()))
+}
+
+/// The message of a refusal in one line, as editors take it: `FILE:LINE:COLUMN: error[N]: ` and what it is, with as
+/// much of the place as is known. `file` is what `file_of` says, read once more, or empty.
+pub fn short_message(
+    alloc: Global,
+    refusal: &Refusal,
+    inputs: &Inputs<'_>,
+    file: &[u8],
+) -> Result<Bytes, OutOfMemory>
+    ensures { IfOk result (IsShortMessage inputs.now.roles.now inputs.now.names.now file.now refusal.now) }
+{
+    let place = place_of(file, refusal);
+    let case = Case {
+        refusal,
+        inputs,
+        file,
+        place,
+    };
+    let what = what_of(alloc, &case)?;
+    let mut lines = Lines::new(alloc);
+    put_short_place(&mut lines, name_of(inputs, refusal), spot_at(file, place))?;
+    put_head(&mut lines, refusal, what.items())?;
+    Ok(Bytes::new(lines.into_bytes()))
+}
