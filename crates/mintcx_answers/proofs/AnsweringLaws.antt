@@ -104,6 +104,7 @@ module _ (most : Most) where
   of_optimise aspect.Whole t view st text (c, optimum, same, is_text) = subst IsOfCommand (sym same) (of_certificate c)
   of_optimise (aspect.Cycle cycle) t view st text (found, is_at, same, is_text) = subst IsOfCommand (sym same) (of_cycle found)
   of_optimise aspect.Histogram t view st text (c, optimum, same, is_text) = subst IsOfCommand (sym same) (of_certificate c)
+  of_optimise aspect.Rows t view st text (c, optimum, same, is_text) = subst IsOfCommand (sym same) (of_certificate c)
   of_optimise (aspect.Schedule None) t view st text (c, optimum, same, is_text) = subst IsOfCommand (sym same) (of_certificate c)
   of_optimise (aspect.Schedule (Some cycle)) t view st text (found, is_at, same, is_text) = subst IsOfCommand (sym same) (of_cycle found)
 
@@ -119,6 +120,7 @@ module _ (most : Most) where
   of_verify aspect.Whole t c design view st text (v, is, same, is_text) = subst IsOfCommand (sym same) (of_verdict v)
   of_verify (aspect.Cycle cycle) t c design view st text (v, is, same, is_text) = subst IsOfCommand (sym same) (of_verdict v)
   of_verify aspect.Histogram t c design view st text (v, is, same, is_text) = subst IsOfCommand (sym same) (of_verdict v)
+  of_verify aspect.Rows t c design view st text (v, is, same, is_text) = subst IsOfCommand (sym same) (of_verdict v)
   of_verify (aspect.Schedule cycle) t c design view st text (v, is, same, is_text) = subst IsOfCommand (sym same) (of_certified v c)
 
   of_job : (job : Job) (told : Aspect) (beside : List (List ℕ)) (t : Timing) (file : List ℕ) (view : View) (st : Status) (text : List ℕ) → IsJobAnswer most job told beside t file view st text →

@@ -36,6 +36,8 @@ use Rattle.mintc_command_answers.specs.declared.command.Job.TheVariants.{Check, 
 use Rattle.mintc_command_answers.specs.declared.command.Source.{Source}
 use Rattle.mintc_command_answers.specs.declared.status.Status.{Status}
 use Rattle.mintc_command_answers.specs.declared.status.Status.TheVariants.{Done, Found}
+use Rattle.mintcx_csv.specs.Chains.{IsOptimumTable}
+use Rattle.mintcx_csv.specs.Slacks.{IsSlackTable}
 use Rattle.mintcx_frame.specs.declared.view.View.{View}
 use Rattle.mintcx_cycles.specs.AtCycles.{IsAtCycle}
 use Rattle.mintcx_cycles.specs.declared.cycles.AtCycle.{AtCycle}
@@ -124,10 +126,16 @@ IsTimedAnswer t None view status text = (c : Certificate) × IsOptimum t c × (s
 IsTimedAnswer t (Some cycle) view status text = (found : AtCycle) × IsAtCycle t cycle found
     × (status ≡ cycle_status found) × IsScheduleOrShort t cycle found view text
 
+-- The answer of `optimise` in rows: the table of the chain of an optimum.
+abbrev pub IsChainAnswer : Timing → Status → List ℕ → Type 0
+IsChainAnswer t status text = (c : Certificate) × IsOptimum t c × (status ≡ certificate_status c)
+    × IsOptimumTable t.flat c text
+
 -- the answer of `optimise`, of the least cycle time or of another one
 abbrev pub IsOptimiseAnswer : Timing → Aspect → View → Status → List ℕ → Type 0
 IsOptimiseAnswer t (aspect.Cycle cycle) view status text = IsCycleAnswer t cycle view status text
 IsOptimiseAnswer t (aspect.Schedule cycle) view status text = IsTimedAnswer t cycle view status text
+IsOptimiseAnswer t aspect.Rows view status text = IsChainAnswer t status text
 IsOptimiseAnswer t told view status text = IsOptimumAnswer t view status text
 
 -- The answer of `report`: the report of an optimum, with the cells of its gates.
@@ -145,9 +153,11 @@ abbrev pub IsSafeAnswer : Timing → View → Status → List ℕ → Type 0
 IsSafeAnswer t view status text = (c : SafeCertificate) × IsSafeOptimum t c × (status ≡ safe_status c)
     × ((least : Certificate) × IsOptimum t least × IsSafeText t.flat c (least_cycle least) view text)
 
--- the text of the slacks at the least cycle time, a row for each pair or a count of pairs for each bar
+-- the text of the slacks at the least cycle time, a row for each pair, also as a table, or a count of pairs for each
+-- bar
 abbrev pub IsTextOfSlacks : Timing → Aspect → View → Slacks → List ℕ → Type 0
 IsTextOfSlacks t aspect.Histogram view x text = IsHistogramText view x text
+IsTextOfSlacks t aspect.Rows view x text = IsSlackTable t x text
 IsTextOfSlacks t told view x text = IsSlackText t view x text
 
 -- The answer of `slack`: the text of the slacks at the least cycle time.

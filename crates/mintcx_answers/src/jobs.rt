@@ -10,7 +10,8 @@ ghost use Rattle.mintc_certificate.specs.declared.certificate.Certificate.{Certi
 ghost use Rattle.mintc_command_answers.specs.Jobs.{IsFileRefused, IsOptimum, IsScheduleRefused, certificate_status};
 ghost use Rattle.mintc_command_answers.specs.Jobs.{safe_status, slack_status};
 ghost use Rattle.mintc_slack.specs.Answers.{AreOfPairs};
-ghost use Rattle.mintcx_answers.specs.Answers.{IsCheckAnswer, IsCycleAnswer, IsFail, IsJobAnswer, IsJudgement};
+ghost use Rattle.mintcx_answers.specs.Answers.{IsChainAnswer, IsCheckAnswer, IsCycleAnswer, IsFail, IsJobAnswer};
+ghost use Rattle.mintcx_answers.specs.Answers.{IsJudgement};
 ghost use Rattle.mintcx_answers.specs.Answers.{IsOptimiseAnswer, IsOptimumAnswer, IsSafeAnswer, IsSlacksAnswer};
 ghost use Rattle.mintcx_answers.specs.Answers.{IsTextOfSlacks, cycle_status, least_cycle};
 
@@ -30,6 +31,7 @@ use mintc_slack::Slacks;
 use mintc_text::limits::MOST_BYTES;
 use mintc_text::{Bytes, Kind, Limits, Name, OutOfMemory, Refusal, Stop};
 use mintc_timing::{Schedule, System, Violation};
+use mintcx_csv::{optimum_csv, slack_csv};
 use mintcx_cycles::{AtCycle, at_cycle_uncounted};
 use mintcx_frame::View;
 use mintcx_judgements::{Judged, fail_text, pass_text, violations_are_named};
@@ -161,6 +163,16 @@ fn optimum_answer(alloc: Global, system: &System, view: &View) -> Result<Answer,
     Ok(Answer { status, text })
 }
 
+/// The table of the chain of the optimum.
+fn chain_answer(alloc: Global, system: &System) -> Result<Answer, OutOfMemory>
+    ensures { IfOk result (λ answer. IsChainAnswer system.now answer.status answer.text) }
+{
+    let certificate = optimum(alloc, system)?;
+    let text = optimum_csv(alloc, system, &certificate)?;
+    let status = certificate_status(&certificate);
+    Ok(Answer { status, text })
+}
+
 /// How a run ends that has found this at a cycle time.
 pub(crate) fn cycle_status(found: &AtCycle) -> Status
     ensures { result ≡ cycle_status found.now }
@@ -198,6 +210,7 @@ fn optimise_answer(
     match aspect {
         Aspect::Cycle(cycle) => cycle_answer(alloc, system, cycle, view),
         Aspect::Schedule(cycle) => timed_answer(alloc, cycle, system, view),
+        Aspect::Rows => chain_answer(alloc, system),
         Aspect::Whole | Aspect::Histogram => optimum_answer(alloc, system, view),
     }
 }
@@ -255,7 +268,7 @@ fn slack_status(slacks: &Slacks) -> Status
     }
 }
 
-/// The text of slacks, a row for each pair or a count of pairs for each bar.
+/// The text of slacks, a row for each pair, also as a table, or a count of pairs for each bar.
 fn text_of_slacks(
     alloc: Global,
     aspect: Aspect,
@@ -268,6 +281,7 @@ fn text_of_slacks(
 {
     match aspect {
         Aspect::Histogram => histogram_text(alloc, system, slacks, view),
+        Aspect::Rows => slack_csv(alloc, system, slacks),
         Aspect::Whole | Aspect::Cycle(_) | Aspect::Schedule(_) => slack_text(
             alloc, system, slacks, view,
         ),

@@ -172,7 +172,7 @@ fn examined_answer(
                 text,
             })
         }
-        Aspect::Whole | Aspect::Cycle(_) | Aspect::Histogram => {
+        Aspect::Whole | Aspect::Cycle(_) | Aspect::Histogram | Aspect::Rows => {
             let text = told_verdict(alloc, &judged, view)?;
             Ok(Answer {
                 status: verdict_status(verdict),

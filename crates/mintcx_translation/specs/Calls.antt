@@ -139,28 +139,42 @@ is_certified what = false
 -- mintc's form
 abbrev pub plain_gap : Bool → Aspect → Option Gap
 plain_gap true told = Some gap.Certificate
-plain_gap false aspect.Whole = None
 plain_gap false (aspect.Cycle cycle) = Some gap.Cycle
 plain_gap false aspect.Histogram = Some gap.Histogram
-plain_gap false (aspect.Schedule cycle) = None
+plain_gap false told = None
 
--- a form that is not there yet, or a clamp of delays
-abbrev pub form_of : Format → Bool → Bool → Aspect → Option Gap
-form_of format.Json clamp certified told = Some gap.Json
-form_of format.Csv clamp certified told = Some gap.Csv
-form_of format.Text clamp certified told = if clamp then Some gap.Clamp else None
-form_of format.Plain clamp certified told = if clamp then Some gap.Clamp else plain_gap certified told
+-- the answer to a task has rows as CSV
+abbrev pub has_rows : Task → Bool
+has_rows (task.Optimise None None) = true
+has_rows (task.Slack false) = true
+has_rows what = false
+
+-- what of a form is not there yet for a task
+abbrev pub form_gap : Format → Task → Option Gap
+form_gap format.Json what = Some gap.Json
+form_gap format.Csv what = if has_rows what then None else Some gap.Csv
+form_gap format.Text what = None
+form_gap format.Plain what = plain_gap (is_certified what) (aspect_of what)
+
+-- that, or a clamp of delays
+abbrev pub form_of : Format → Bool → Task → Option Gap
+form_of form clamp what = if clamp then Some gap.Clamp else form_gap form what
+
+-- what of a task is told in a form
+abbrev pub told_in : Format → Task → Aspect
+told_in format.Csv what = aspect.Rows
+told_in form what = aspect_of what
 
 -- a call whose files are as many as its command takes
 abbrev pub fitting : Call → Result Call Gap
 fitting call = if is_fitting call.command (length call.files) then Ok call else Err gap.Misfit
 
 -- the command of a task on a design, with the names of all its files
-abbrev pub call_on : Option Gap → Task → Design → Result Call Gap
-call_on (Some missing) what files = Err missing
-call_on None what files = and_then (command_for what files) (λ command. fitting (record {
+abbrev pub call_on : Option Gap → Aspect → Task → Design → Result Call Gap
+call_on (Some missing) told what files = Err missing
+call_on None told what files = and_then (command_for what files) (λ command. fitting (record {
   command = command;
-  aspect = aspect_of what;
+  aspect = told;
   of_library = of_library command files;
   files = files_of what files;
   certificate = certificate_file what;
@@ -168,7 +182,7 @@ call_on None what files = and_then (command_for what files) (λ command. fitting
 
 -- what is asked of mintc, or what of it is not there yet
 abbrev pub call_for : Format → Bool → Task → Design → Result Call Gap
-call_for form clamp what files = call_on (form_of form clamp (is_certified what) (aspect_of what)) what files
+call_for form clamp what files = call_on (form_of form clamp what) (told_in form what) what files
 
 -- why a task on a design is no call
 abbrev pub IsNoCall : Result Call Gap → NoCall → Type 0

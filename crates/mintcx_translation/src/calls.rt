@@ -3,8 +3,8 @@ ghost use Rattle.std.specs.Prelude.{◌≡◌, ◌≢◌, ◌<◌, ◌++◌, ◌
 ghost use Rattle.mintc_command_answers.specs.Commands.{IsNumberInRange, roles_of};
 ghost use Rattle.mintcx_translation.specs.Calls.{IsNoCall, aspect_of, call_for, cells_file, certificate_file};
 ghost use Rattle.mintcx_translation.specs.Calls.{command_for, corners_on, design_files, is_certified};
-ghost use Rattle.mintcx_translation.specs.Calls.{form_of, is_corners, is_fitting, job_of, job_on, of_library};
-ghost use Rattle.mintcx_translation.specs.Calls.{own_file, plain_gap, source_of};
+ghost use Rattle.mintcx_translation.specs.Calls.{form_gap, form_of, has_rows, is_corners, is_fitting, job_of, job_on, of_library};
+ghost use Rattle.mintcx_translation.specs.Calls.{own_file, plain_gap, source_of, told_in};
 
 use mintc_command_answers::{Command, Job, Source};
 use mintc_text::{Name, Names, OutOfMemory};
@@ -21,6 +21,8 @@ pub enum Aspect {
     Cycle(u32),
     /// Of `slack`: the pairs counted by their slack.
     Histogram,
+    /// The rows alone, as CSV: of `optimise` the chain that decides, of `slack` the pairs.
+    Rows,
     /// The schedule, as `check` takes it: of `optimise` that of the least cycle time, or of another one in
     /// femtoseconds; of `verify` that of the certificate.
     Schedule(Option<u32>),
@@ -352,6 +354,27 @@ fn is_certified(task: &Task) -> bool
     }
 }
 
+/// What of a task is told in a form.
+fn told_in(format: Format, task: &Task) -> Aspect
+    ensures { result ≡ told_in format task.now }
+{
+    match format {
+        Format::Csv => Aspect::Rows,
+        Format::Text | Format::Plain | Format::Json => aspect_of(task),
+    }
+}
+
+/// Whether an answer has rows as CSV.
+fn has_rows(task: &Task) -> bool
+    ensures { result ≡ has_rows task.now }
+{
+    match task {
+        Task::Optimise { certificate, cycle } => certificate.is_none() && cycle.is_none(),
+        Task::Slack { histogram } => !*histogram,
+        _ => false,
+    }
+}
+
 /// What of an answer mintc has no text for.
 fn plain_gap(certified: bool, aspect: Aspect) -> Option<Gap>
     ensures { result ≡ plain_gap certified aspect }
@@ -360,28 +383,32 @@ fn plain_gap(certified: bool, aspect: Aspect) -> Option<Gap>
         return Some(Gap::Certificate);
     }
     match aspect {
-        Aspect::Whole | Aspect::Schedule(_) => None,
+        Aspect::Whole | Aspect::Schedule(_) | Aspect::Rows => None,
         Aspect::Cycle(_) => Some(Gap::Cycle),
         Aspect::Histogram => Some(Gap::Histogram),
     }
 }
 
-/// What of a form isn't there yet.
-fn form_of(format: Format, clamp: bool, certified: bool, aspect: Aspect) -> Option<Gap>
-    ensures { result ≡ form_of format clamp certified aspect }
+/// What of a form isn't there yet for a task, but for a clamp.
+fn form_gap(format: Format, task: &Task) -> Option<Gap>
+    ensures { result ≡ form_gap format task.now }
 {
     match format {
         Format::Json => Some(Gap::Json),
-        Format::Csv => Some(Gap::Csv),
-        Format::Text => { if clamp { Some(Gap::Clamp) } else { None } }
-        Format::Plain => {
-            if clamp {
-                Some(Gap::Clamp)
-            } else {
-                plain_gap(certified, aspect)
-            }
-        }
+        Format::Csv => { if has_rows(task) { None } else { Some(Gap::Csv) } }
+        Format::Text => None,
+        Format::Plain => plain_gap(is_certified(task), aspect_of(task)),
     }
+}
+
+/// What of a form isn't there yet for a task.
+fn form_of(format: Format, clamp: bool, task: &Task) -> Option<Gap>
+    ensures { result ≡ form_of format clamp task.now }
+{
+    if clamp {
+        return Some(Gap::Clamp);
+    }
+    form_gap(format, task)
 }
 
 /// What a task on a design asks of mintc, where its form is there; `clamp` says whether 0 is taken for each delay
@@ -400,10 +427,10 @@ pub fn call_of(
     ensures files { IfOk result (λ call. (number : ℕ) → call.command ≢ Command.Sample number) }
     ensures library { IfOk result (λ call. call.of_library ≡ true → 1 < length call.files) }
 {
-    let aspect = aspect_of(&task);
-    if let Some(gap) = form_of(format, clamp, is_certified(&task), aspect) {
+    if let Some(gap) = form_of(format, clamp, &task) {
         return Err(NoCall::Missing(gap));
     }
+    let aspect = told_in(format, &task);
     let command = command_for(&task, &design)?;
     let of_library = of_library(command, &design);
     let for_corners = is_corners(&task);

@@ -1,0 +1,5 @@
+mod ChainLaws
+mod PlaceLaws
+mod ReadingLaws
+mod SpanLaws
+mod TableLaws
