@@ -1,4 +1,5 @@
 mod ChainLaws
+mod OptimumLaws
 mod PlaceLaws
 mod ReadingLaws
 mod SpanLaws

@@ -7,6 +7,7 @@ use Rattle.mintc_timing.specs.declared.clocking.Schedule.{Schedule}
 use Rattle.mintc_timing.specs.Design.{Design}
 use Rattle.mintc_certificate.specs.declared.certificate.Certificate.{Certificate}
 use Rattle.mintc_certificate.specs.declared.certificate.Certificate.TheVariants.{Least, Never}
+use Rattle.mintc_certificate.specs.declared.members.Member.{Member}
 use Rattle.mintcx_frame.specs.Names.{node_name}
 use Rattle.mintcx_chain.specs.declared.rows.Row.{Row}
 use Rattle.mintcx_chain.specs.declared.stages.Stage.{Stage}
@@ -57,10 +58,18 @@ hop_record design stage =
 abbrev pub hop_records : Design → List Stage → List (List (List ℕ))
 hop_records design stages = hop_fields ∷ map (hop_record design) stages
 
--- The text is the table of the chain of a certificate, from its beginning: of the chain that decides the least cycle,
--- or of that which forbids every cycle time.
-abbrev pub IsOptimumTable : Design → Certificate → List ℕ → Type 0
-IsOptimumTable design (Least s d chain) text =
+-- The text is the table of the members of a chain, from its beginning, that decides the least cycle of a schedule.
+abbrev pub IsLeastTable : Design → Schedule → List ℤ → List Member → List ℕ → Type 0
+IsLeastTable design s d chain text =
     (stages : List Stage) × AreStages design d chain stages × IsTable (chain_records design s d stages) text
-IsOptimumTable design (Never chain) text =
+
+-- The same of a chain that forbids every cycle time.
+abbrev pub IsNeverTable : Design → List Member → List ℕ → Type 0
+IsNeverTable design chain text =
     (stages : List Stage) × AreStages design [] chain stages × IsTable (hop_records design stages) text
+
+-- The text is the table of the chain of a certificate: of that which decides the least cycle, or of that which forbids
+-- every cycle time.
+abbrev pub IsOptimumTable : Design → Certificate → List ℕ → Type 0
+IsOptimumTable design (Least s d chain) text = IsLeastTable design s d chain text
+IsOptimumTable design (Never chain) text = IsNeverTable design chain text

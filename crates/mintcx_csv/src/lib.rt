@@ -7,6 +7,7 @@
 #![tactic(auto)]
 
 mod chains;
+mod optimum;
 mod order;
 mod records;
 mod slacks;
@@ -14,4 +15,5 @@ mod slacks;
 mod tests;
 
 pub use chains::{chain_csv, hops_csv};
+pub use optimum::optimum_csv;
 pub use slacks::slack_csv;
