@@ -7,7 +7,7 @@ use Rattle.mintcx_places.specs.declared.lines.Spot.{Spot}
 use Rattle.mintcx_refusals.specs.declared.places.Place.{Place}
 use Rattle.mintcx_refusals.specs.Messages.{IsExcerptAt, IsExcerptOf, IsSpotAt, IsSpotOf}
 use Rattle.mintcx_refusals.specs.Places.{HasNoPlace, IsPlace}
-use Rattle.mintcx_refusals.proofs.WrittenLaws.{in_two, in_four}
+use Rattle.mintcx_refusals.proofs.WrittenLaws.{in_two, in_three, in_four, in_five}
 
 -- the excerpt of the place of a refusal is that of the refusal
 pub excerpt_is : (file : List ℕ) (refused : Refusal) (place : Option Place) (excerpt : Option Excerpt) → IfSome place (IsPlace file refused) →
@@ -28,3 +28,10 @@ made p q r s e f g h i = in_four [] p q r s (f ∙ ap (λ v. v ++ p) e) g h i
 
 pub made_of_two : {z a new : List ℕ} (p q : List ℕ) → z ≡ [] → a ≡ z ++ p → new ≡ a ++ q → new ≡ p ++ q
 made_of_two p q e f g = in_two [] p q (f ∙ ap (λ v. v ++ p) e) g
+
+pub made_of_five : {z a b c d new : List ℕ} (p q r s t : List ℕ) → z ≡ [] → a ≡ z ++ p → b ≡ a ++ q → c ≡ b ++ r → d ≡ c ++ s → new ≡ d ++ t →
+    new ≡ p ++ q ++ r ++ s ++ t
+made_of_five p q r s t e f g h i j = in_five [] p q r s t (f ∙ ap (λ v. v ++ p) e) g h i j
+
+pub made_of_three : {z a b new : List ℕ} (p q r : List ℕ) → z ≡ [] → a ≡ z ++ p → b ≡ a ++ q → new ≡ b ++ r → new ≡ p ++ q ++ r
+made_of_three p q r e f g h = in_three [] p q r (f ∙ ap (λ v. v ++ p) e) g h

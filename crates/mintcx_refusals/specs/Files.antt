@@ -1,5 +1,6 @@
 -- The file of a command that a refusal speaks of.
-use Rattle.std.specs.Prelude.{◌≡◌, ◌≢◌, ◌<◌, ℕ, ◌+◌, ◌⊎◌, List, [], Option, Some, None, length, slice_index_or}
+use Rattle.std.specs.Prelude.{◌≡◌, ◌≢◌, ◌<◌, ℕ, ◌+◌, ◌⊎◌, Bool, true, false, if◌then◌else◌, List, [], Option, Some, None}
+use Rattle.std.specs.Prelude.{length, slice_index_or}
 use Rattle.mintc_text.specs.declared.refusals.Role.{Role}
 use Rattle.mintc_text.specs.declared.refusals.Role.TheVariants as role
 use Rattle.mintc_text.specs.declared.refusals.Refusal.{Refusal}
@@ -55,3 +56,13 @@ abbrev pub IsNameOf : List Role → List (List ℕ) → Refusal → List ℕ →
 IsNameOf roles names refused name =
     ((n : ℕ) × IsFile roles refused n × (name ≡ name_at names n))
     ⊎ (((n : ℕ) → IsFile roles refused n → ⊥) × (name ≡ []))
+
+-- a refusal is about the delays
+abbrev pub is_of_delays : Option Role → Bool
+is_of_delays (Some role.Delays) = true
+is_of_delays _ = false
+
+-- which of two refusals tells the file, where a corner is refused for what its own files are refused for: about the
+-- delays that of the corner does
+abbrev pub teller : Refusal → Refusal → Refusal
+teller corner own = if is_of_delays (role_of own) then corner else own

@@ -10,7 +10,7 @@ use Rattle.mintcx_places.specs.declared.lines.Spot.{Spot}
 use Rattle.mintcx_places.specs.Excerpts.{IsExcerpt}
 use Rattle.mintcx_places.specs.Lines.{IsSpot}
 use Rattle.mintcx_refusals.specs.declared.places.Place.{Place}
-use Rattle.mintcx_refusals.specs.Files.{IsNameOf}
+use Rattle.mintcx_refusals.specs.Files.{IsNameOf, teller}
 use Rattle.mintcx_refusals.specs.Places.{HasNoPlace, IsPlace}
 
 -- what a message begins with: the number of its refusal
@@ -21,11 +21,17 @@ head refused = codes "error[" ++ decimal (refusal_number refused) ++ codes "]: "
 abbrev pub own_line : Refusal → List ℕ
 own_line refused = words (codes "refused" ∷ decimal (refusal_number refused) ∷ refusal_fields refused)
 
--- what a message ends with: mintc's own line, and where more is said
+-- what a message ends with: mintc's own words, and where more is said
+abbrev pub note_text : List ℕ → ℕ → List ℕ
+note_text own number =
+    codes "= note: `" ++ own ++ codes "`; `mintcx explain " ++ decimal number ++ codes "` says more" ++ 10 ∷ []
+
 abbrev pub note : Refusal → List ℕ
-note refused =
-    codes "= note: `" ++ own_line refused ++ codes "`; `mintcx explain " ++ decimal (refusal_number refused)
-    ++ codes "` says more" ++ 10 ∷ []
+note refused = note_text (own_line refused) (refusal_number refused)
+
+-- of a corner these are both lines, its own and that of its files
+abbrev pub corner_note : Refusal → Refusal → List ℕ
+corner_note corner own = note_text (own_line corner ++ codes "; " ++ own_line own) (refusal_number corner)
 
 -- a file, a line and a column
 abbrev pub spot_text : List ℕ → Spot → List ℕ
@@ -92,6 +98,20 @@ pub record IsMessage (roles : List Role) (names : List (List ℕ)) (file : List 
   pub is_name : IsNameOf roles names refused name
   pub is_excerpt : IsExcerptOf file refused excerpt
   pub whole : text ≡ (((head refused ++ what ++ 10 ∷ []) ++ place_text name excerpt label) ++ advice) ++ note refused
+
+-- The message that a corner is refused: what its own files are refused for, and where; some advice; and both lines.
+pub record IsCornerMessage (roles : List Role) (names : List (List ℕ)) (file : List ℕ) (corner own : Refusal) (text : List
+    ℕ) : Type 0 where
+  pub what : List ℕ
+  pub own_what : List ℕ
+  pub name : List ℕ
+  pub excerpt : Option Excerpt
+  pub label : List ℕ
+  pub advice : List ℕ
+  pub is_name : IsNameOf roles names (teller corner own) name
+  pub is_excerpt : IsExcerptOf file own excerpt
+  pub whole : text ≡ ((((head corner ++ what ++ 10 ∷ []) ++ (head own ++ own_what ++ 10 ∷ [])) ++ place_text name excerpt label) ++ advice)
+      ++ corner_note corner own
 
 -- a file as a line begins with it, if there is one
 abbrev pub short_file : List ℕ → List ℕ

@@ -1,8 +1,9 @@
 //! Why an input is refused, and what helps.
 
 use crate::cases::{Case, bad_ending, bytes_at, first_word, is_last};
+use crate::entries::entry_of;
 use crate::files::named;
-use crate::writing::{put_number, put_times};
+use crate::writing::put_times;
 use mintc_text::{Bytes, Lines, OutOfMemory, Refusal, Role};
 use std::alloc::Global;
 
@@ -210,9 +211,7 @@ fn help_of(case: &Case<'_>) -> &'static [u8] {
         Refusal::NoInstance { .. } => {
             b"write the SDF of this very netlist; look at DIVIDER, and at names with backslashes"
         }
-        Refusal::Negative { .. } => {
-            b"buffer the net; or `--clamp-negative`, which takes 0 for it: safe for setups, not for holds"
-        }
+        Refusal::Negative { .. } => { b"buffer the net" }
         Refusal::BadCell { rule, .. } => cell_help(*rule),
         Refusal::BadClock { rule, .. } => clock_help(*rule),
         Refusal::CombinationalLoop { .. } => b"break the loop, or put the missing latch into it",
@@ -226,6 +225,17 @@ fn help_of(case: &Case<'_>) -> &'static [u8] {
         Refusal::Corner { .. } => b"mend that file",
         _ => b"",
     }
+}
+
+/// Writes how a design is judged in parts.
+fn put_parts_help(out: &mut Lines, case: &Case<'_>) -> Result<(), OutOfMemory> {
+    out.put(b"judge the design in parts")?;
+    let clock = named(case.inputs, Role::Clock, b"");
+    if clock.is_empty() {
+        return Ok(());
+    }
+    out.put(b": name a smaller `top` in ")?;
+    out.put(clock)
 }
 
 /// Writes what helps, where that names a file.
@@ -249,82 +259,7 @@ fn put_naming_help(out: &mut Lines, case: &Case<'_>) -> Result<(), OutOfMemory> 
             out.put(named(case.inputs, Role::Cells, b"the cells"))?;
             out.put(b" with the kind `clock`, if they carry no data")
         }
-        _ => {
-            out.put(b"judge the design in parts: name a smaller `top` in ")?;
-            out.put(named(case.inputs, Role::Clock, b"the clock description"))
-        }
-    }
-}
-
-/// Writes what is counted, and how: words, a number, words.
-fn put_counted(
-    out: &mut Lines,
-    before: &[u8],
-    number: u32,
-    behind: &[u8],
-) -> Result<(), OutOfMemory> {
-    out.put(before)?;
-    put_number(out, u64::from(number))?;
-    out.put(behind)
-}
-
-/// Writes which entry of its file a refusal speaks of, where no place is shown.
-fn put_entry(out: &mut Lines, case: &Case<'_>) -> Result<(), OutOfMemory> {
-    let entries: &[u8] = b"; entries are counted from 1, headers and cells alike";
-    match case.refusal {
-        Refusal::Syntax {
-            role: Role::Delays,
-            entry,
-        }
-        | Refusal::NoInstance {
-            role: Role::Delays,
-            entry,
-        }
-        | Refusal::NoArc { entry }
-        | Refusal::Negative { entry }
-        | Refusal::Range { entry } => put_counted(out, b"it is entry ", *entry, entries),
-        Refusal::Syntax {
-            role: Role::Cells,
-            entry,
-        } => put_counted(
-            out,
-            b"it is statement ",
-            *entry,
-            b" directly in the library",
-        ),
-        Refusal::Syntax {
-            role: Role::Netlist,
-            entry,
-        } => put_counted(out, b"statement ", *entry, b" is missing"),
-        Refusal::Syntax { entry, .. } => put_counted(out, b"line ", *entry, b" is missing"),
-        Refusal::NoInstance { entry, .. } => put_counted(
-            out,
-            b"it is item ",
-            *entry,
-            b" of phases, inputs and outputs, counted together",
-        ),
-        Refusal::BadCell { entry, .. } if *entry > 0 => {
-            put_counted(out, b"it is cell ", *entry, b" in the order of their names")
-        }
-        Refusal::NoPhase { element } => put_counted(
-            out,
-            b"it is latch or flop ",
-            *element,
-            b", counted from 0 as they stand in the hierarchy",
-        ),
-        Refusal::PathRange { element, bit } => {
-            put_counted(out, b"it leads from element ", *element, b" to bit ")?;
-            put_counted(out, b"", *bit, b", both counted from 0")
-        }
-        _ => Ok(()),
-    }
-}
-
-/// Whether the entry of a refusal is said: no place is shown, or one is missing.
-fn tells_entry(case: &Case<'_>) -> bool {
-    match case.place {
-        Some(place) => place.is_last,
-        None => true,
+        _ => put_parts_help(out, case),
     }
 }
 
@@ -337,15 +272,6 @@ fn put_advice(out: &mut Lines, margin: usize, key: &[u8], text: &[u8]) -> Result
     out.put(key)?;
     out.put(text)?;
     out.put(b"\n")
-}
-
-/// Which entry of its file a refusal speaks of; nothing where that is shown.
-fn entry_of(alloc: Global, case: &Case<'_>) -> Result<Bytes, OutOfMemory> {
-    let mut lines = Lines::new(alloc);
-    if tells_entry(case) {
-        put_entry(&mut lines, case)?;
-    }
-    Ok(Bytes::new(lines.into_bytes()))
 }
 
 /// What helps, also where that names a file.

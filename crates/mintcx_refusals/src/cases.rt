@@ -6,10 +6,12 @@ use crate::places::Place;
 use mintc_text::{Refusal, Role};
 use mintc_vlex::{TokenKind, next_token};
 
-/// A refusal with the files of the command, the bytes of the file that it speaks of, and the place there.
+/// A refusal with the files of the command, the bytes of the file that it speaks of, and the place there, which is that
+/// of `own`: the refusal itself, or of a corner that of its files.
 #[derive(Clone, Copy)]
 pub(crate) struct Case<'a> {
     pub(crate) refusal: &'a Refusal,
+    pub(crate) own: &'a Refusal,
     pub(crate) inputs: &'a Inputs<'a>,
     pub(crate) file: &'a [u8],
     pub(crate) place: Option<Place>,

@@ -1,6 +1,6 @@
 //! The file of a command that a refusal speaks of.
 ghost use Rattle.std.specs.Prelude.{◌≡◌, ◌≢◌, ◌<◌, ℕ, IfNone, IfSome, length};
-ghost use Rattle.mintcx_refusals.specs.Files.{IsFile, IsNameOf, name_at, role_at, role_of};
+ghost use Rattle.mintcx_refusals.specs.Files.{IsFile, IsNameOf, is_of_delays, name_at, role_at, role_of, teller};
 
 use mintc_text::{Name, Refusal, Role};
 
@@ -80,6 +80,30 @@ pub fn file_of(roles: &[Role], refusal: &Refusal) -> Option<usize>
             None => None,
         },
     }
+}
+
+/// Whether a refusal is about delays.
+fn is_of_delays(refusal: &Refusal) -> bool
+    ensures { result ≡ is_of_delays (role_of refusal.now) }
+{
+    matches!(role_of(refusal), Some(Role::Delays))
+}
+
+/// Which of two refusals tells the file: that of a corner where its own is about the delays, else its own.
+pub(crate) fn teller<'a>(corner: &'a Refusal, own: &'a Refusal) -> &'a Refusal
+    ensures { result.now ≡ teller corner.now own.now }
+{
+    if is_of_delays(own) { corner } else { own }
+}
+
+/// Which file of `corners` it is that the design of a corner is refused for, counted from 0 in the order of its words.
+/// None where that is no file of this command.
+pub fn corner_file_of(roles: &[Role], corner: u32, own: &Refusal) -> Option<usize>
+    ensures some { IfSome result (IsFile roles.now (teller (Refusal.Corner corner) own.now)) }
+    ensures none { IfNone result ((n : ℕ) → IsFile roles.now (teller (Refusal.Corner corner) own.now) n → ⊥) }
+{
+    let corner = Refusal::Corner { file: corner };
+    file_of(roles, teller(&corner, own))
 }
 
 /// The name of a file, by its number from 0 on.

@@ -1,13 +1,13 @@
 //! The message of a refusal, whole or in one line.
 ghost use Rattle.std.specs.Prelude.{◌≤◌, IfOk, IfSome, length};
-ghost use Rattle.mintcx_refusals.specs.Messages.{IsExcerptAt, IsMessage, IsShortMessage, IsSpotAt};
+ghost use Rattle.mintcx_refusals.specs.Messages.{IsCornerMessage, IsExcerptAt, IsMessage, IsShortMessage, IsSpotAt};
 
 use crate::advice::{advice_of, label_of};
 use crate::cases::Case;
-use crate::files::{Inputs, name_of};
+use crate::files::{Inputs, name_of, teller};
 use crate::places::{Place, place_of};
 use crate::whats::what_of;
-use crate::writing::{digits_of, put_head, put_note, put_place, put_short_place};
+use crate::writing::{digits_of, put_corner_note, put_head, put_note, put_place, put_short_place};
 use mintc_text::{Bytes, Lines, OutOfMemory, Refusal};
 use mintcx_places::{Excerpt, Spot, excerpt_of, spot_of};
 use std::alloc::Global;
@@ -65,6 +65,7 @@ pub fn refusal_message(
     let excerpt = excerpt_at(alloc, file, place)?;
     let case = Case {
         refusal,
+        own: refusal,
         inputs,
         file,
         place,
@@ -76,6 +77,45 @@ pub fn refusal_message(
     put_place(alloc, &mut lines, name, &excerpt, label_of(&case))?;
     lines.put(advice.items())?;
     put_note(alloc, &mut lines, refusal)?;
+    Ok(Bytes::new(lines.into_bytes()))
+}
+
+/// The message that a corner is refused, counted from 1, for what its own files are refused for: as `refusal_message`
+/// of that, below a line that says which corner it is. `file` is what `corner_file_of` says, read once more, or empty.
+pub fn corner_message(
+    alloc: Global,
+    corner: u32,
+    own: &Refusal,
+    inputs: &Inputs<'_>,
+    file: &[u8],
+) -> Result<Bytes, OutOfMemory>
+    ensures { IfOk result
+        (IsCornerMessage inputs.now.roles.now inputs.now.names.now file.now (Refusal.Corner corner) own.now) }
+{
+    let outer = Refusal::Corner { file: corner };
+    let place = place_of(file, own);
+    let name = name_of(inputs, teller(&outer, own));
+    let excerpt = excerpt_at(alloc, file, place)?;
+    let inner = Case {
+        refusal: own,
+        own,
+        inputs,
+        file,
+        place,
+    };
+    let case = Case {
+        refusal: &outer,
+        ..inner
+    };
+    let what = what_of(alloc, &case)?;
+    let own_what = what_of(alloc, &inner)?;
+    let advice = advice_of(alloc, &case, margin_of(alloc, &excerpt)?)?;
+    let mut lines = Lines::new(alloc);
+    put_head(&mut lines, &outer, what.items())?;
+    put_head(&mut lines, own, own_what.items())?;
+    put_place(alloc, &mut lines, name, &excerpt, label_of(&inner))?;
+    lines.put(advice.items())?;
+    put_corner_note(alloc, &mut lines, &outer, own)?;
     Ok(Bytes::new(lines.into_bytes()))
 }
 
@@ -92,6 +132,7 @@ pub fn short_message(
     let place = place_of(file, refusal);
     let case = Case {
         refusal,
+        own: refusal,
         inputs,
         file,
         place,

@@ -1,5 +1,5 @@
 //! Messages by hand.
-use crate::{Inputs, file_of, refusal_message, short_message};
+use crate::{Inputs, corner_file_of, corner_message, file_of, refusal_message, short_message};
 use mintc_text::{Kind, Name, OutOfMemory, Refusal, Role};
 use std::alloc::Global;
 use std::process::Abort;
@@ -33,6 +33,13 @@ const NO_MODULE: &str = "error[4]: there is no cell or module `mid`
   = note: `refused 4 5`; `mintcx explain 4` says more
 ";
 
+const UNREAD: &str = "error[4]: the cell of an instance is neither described nor a module
+ --> top.v
+ = why: it is statement 5; statements are counted from 1, `endmodule` alike
+ = help: describe it in cells.toml, give the library with --lib, or add its module
+ = note: `refused 4 5`; `mintcx explain 4` says more
+";
+
 const UNCLOSED: &str = "error[1]: the netlist ends inside of a module
  --> top.v:5:3
 5 |   mid u ( .x(a) );
@@ -64,6 +71,14 @@ fn names(alloc: Global) -> Result<Vec<Name>, OutOfMemory> {
     Ok(names)
 }
 
+const CORNERS: &[Role] = &[
+    Role::Netlist,
+    Role::Cells,
+    Role::Clock,
+    Role::Delays,
+    Role::Delays,
+];
+
 const ROLES: &[Role] = &[Role::Netlist, Role::Delays, Role::Cells, Role::Clock];
 
 fn is_told(alloc: Global, refusal: &Refusal, file: &str, text: &str) -> Result<bool, OutOfMemory> {
@@ -76,6 +91,107 @@ fn is_told(alloc: Global, refusal: &Refusal, file: &str, text: &str) -> Result<b
     Ok(message.items() == text.as_bytes())
 }
 
+/// Whether the message of a refusal of the file beside a table is this.
+fn is_told_beside(
+    alloc: Global,
+    name: &[u8],
+    refusal: &Refusal,
+    file: &str,
+    text: &str,
+) -> Result<bool, OutOfMemory> {
+    let names = vec![in alloc; Name::new(alloc, b"top.table")?, Name::new(alloc, name)?]?;
+    let beside = match refusal {
+        Refusal::Syntax { role, .. } => *role,
+        _ => Role::Schedule,
+    };
+    let inputs = Inputs {
+        roles: &[Role::Table, beside],
+        names: &names,
+    };
+    let message = refusal_message(alloc, refusal, &inputs, file.as_bytes())?;
+    Ok(message.items() == text.as_bytes())
+}
+
+const CERTIFICATE: &str = "certificate 2
+least
+den 1
+cycle 100
+phases 2
+phase 0 10
+phase 10 30
+departures 2
+departure 0
+departure 20
+chain 2
+reach 0 1 1 0
+reach 1 0 1 1
+";
+
+const ENDLESS: &str = "error[1]: the certificate ends too soon
+  --> own.cert:13:1
+13 | reach 1 0 1 1
+   | ^^^^^^^^^^^^^ the last line; `end` has to follow
+   = why: line 14 is missing
+   = help: write the certificate anew, with `mintcx optimise --certificate FILE`
+   = note: `refused 1 certificate 14`; `mintcx explain 1` says more
+";
+
+const TOP: &str = "/* in the style of Yosys */
+(* src = \"two.v:1.1-9.10\" *)
+module two(phi1, phi2, y);
+  input phi1;
+  wire phi1;
+  input phi2;
+  wire phi2;
+  output y;
+  wire y;
+  wire \\loop.back ;
+  wire mid;
+  assign y = \\loop.back ;
+  half u1 ( .c(phi1), .i(\\loop.back ), .o(mid) );
+  half u2 ( .c(phi2), .i(mid), .o(\\loop.back ) );
+endmodule
+module half(c, i, o);
+  input c;
+  input i;
+  output o;
+  wire q;
+  LAT \\l[0]  ( .D(i), .G(c), .Q(q) );
+  slice s ( .a(q), .t(1'h0), .z(o) );
+endmodule
+module slice(a, t, z);
+  input a;
+  inout t;
+  output z;
+  BUF b ( .A(a), .Y(z) );
+endmodule
+";
+
+const INOUT: &str = "error[1]: this statement isn't structural Verilog
+  --> top.v:26:3
+26 |   inout t;
+   |   ^^^^^^^^
+   = why: `inout` ports have no direction that data goes in
+   = help: leave pads out of what is timed, or declare it `input` or `output`
+   = note: `refused 1 netlist 24`; `mintcx explain 1` says more
+";
+
+#[test]
+fn files_of_people_are_shown(rt: HostRuntime) -> Result<(), OutOfMemory> {
+    let alloc = rt.alloc();
+    let inout = Refusal::Syntax {
+        role: Role::Netlist,
+        entry: 24,
+    };
+    assert!(rt; is_told(alloc, &inout, TOP, INOUT)?);
+    let missing = Refusal::Syntax {
+        role: Role::Certificate,
+        entry: 14,
+    };
+    assert!(rt; is_told_beside(alloc, b"own.cert", &missing, CERTIFICATE, ENDLESS)?);
+    Ok(())
+}
+
 #[test]
 fn statements_are_shown(rt: HostRuntime) -> Result<(), OutOfMemory> {
     let alloc = rt.alloc();
@@ -86,7 +202,9 @@ fn statements_are_shown(rt: HostRuntime) -> Result<(), OutOfMemory> {
         };
         assert!(rt; is_told(alloc, &refusal, NETLIST, text)?);
     }
-    assert!(rt; is_told(alloc, &Refusal::NoModule { entry: 5 }, NETLIST, NO_MODULE)?);
+    let no_module = Refusal::NoModule { entry: 5 };
+    assert!(rt; is_told(alloc, &no_module, NETLIST, NO_MODULE)?);
+    assert!(rt; is_told(alloc, &no_module, "", UNREAD)?);
     Ok(())
 }
 
@@ -130,18 +248,6 @@ const PHASES: &str = "error[19]: the design has 2 phases, the schedule 1
   = note: `refused 19 2 1`; `mintcx explain 19` says more
 ";
 
-fn is_told_of_schedule(alloc: Global, refusal: &Refusal, text: &str) -> Result<bool, OutOfMemory> {
-    let mut names = Vec::new(alloc);
-    names.push(Name::new(alloc, b"top.table")?)?;
-    names.push(Name::new(alloc, b"own.schedule")?)?;
-    let inputs = Inputs {
-        roles: &[Role::Table, Role::Schedule],
-        names: &names,
-    };
-    let message = refusal_message(alloc, refusal, &inputs, SCHEDULE.as_bytes())?;
-    Ok(message.items() == text.as_bytes())
-}
-
 #[test]
 fn lines_are_shown(rt: HostRuntime) -> Result<(), OutOfMemory> {
     let alloc = rt.alloc();
@@ -150,13 +256,13 @@ fn lines_are_shown(rt: HostRuntime) -> Result<(), OutOfMemory> {
             role: Role::Schedule,
             entry: *entry,
         };
-        assert!(rt; is_told_of_schedule(alloc, &refusal, text)?);
+        assert!(rt; is_told_beside(alloc, b"own.schedule", &refusal, SCHEDULE, text)?);
     }
     let phases = Refusal::PhaseMismatch {
         design: 2,
         schedule: 1,
     };
-    assert!(rt; is_told_of_schedule(alloc, &phases, PHASES)?);
+    assert!(rt; is_told_beside(alloc, b"own.schedule", &phases, SCHEDULE, PHASES)?);
     Ok(())
 }
 
@@ -174,6 +280,37 @@ fn short_messages_have_one_line(rt: HostRuntime) -> Result<(), OutOfMemory> {
     Ok(())
 }
 
+const CORNER: &str = "error[22]: corner 2, cold.sdf, is refused
+error[1]: this part of the delays isn't read
+ --> cold.sdf
+ = why: it is entry 1; entries are counted from 1, headers and cells alike
+ = why: each corner has to be a design by itself
+ = help: mend that file
+ = note: `refused 22 2; refused 1 delays 1`; `mintcx explain 22` says more
+";
+
+#[test]
+fn corners_are_told_with_their_own_refusals(rt: HostRuntime) -> Result<(), OutOfMemory> {
+    let alloc = rt.alloc();
+    let mut names = names(alloc)?;
+    names.swap_remove(1);
+    names.push(Name::new(alloc, b"hot.sdf")?)?;
+    names.push(Name::new(alloc, b"cold.sdf")?)?;
+    let inputs = Inputs {
+        roles: CORNERS,
+        names: &names,
+    };
+    let own = Refusal::Syntax {
+        role: Role::Delays,
+        entry: 1,
+    };
+    let message = corner_message(alloc, 2, &own, &inputs, b"(DELAYFILE\n")?;
+    assert!(rt; message.items() == CORNER.as_bytes());
+    assert!(rt; corner_file_of(CORNERS, 2, &own) == Some(4));
+    assert!(rt; corner_file_of(CORNERS, 2, &Refusal::NoModule { entry: 1 }) == Some(0));
+    Ok(())
+}
+
 #[test]
 fn files_are_found_by_what_they_hold(rt: HostRuntime) {
     assert!(rt; file_of(ROLES, &Refusal::Negative { entry: 1 }) == Some(1));
@@ -187,13 +324,6 @@ fn files_are_found_by_what_they_hold(rt: HostRuntime) {
         )
         .is_none()
     );
-    let corners = &[
-        Role::Netlist,
-        Role::Cells,
-        Role::Clock,
-        Role::Delays,
-        Role::Delays,
-    ];
-    assert!(rt; file_of(corners, &Refusal::Corner { file: 2 }) == Some(4));
-    assert!(rt; file_of(corners, &Refusal::Corner { file: 3 }).is_none());
+    assert!(rt; file_of(CORNERS, &Refusal::Corner { file: 2 }) == Some(4));
+    assert!(rt; file_of(CORNERS, &Refusal::Corner { file: 3 }).is_none());
 }

@@ -1,8 +1,8 @@
 //! The parts that each message has.
-ghost use Rattle.std.specs.Prelude.{◌≡◌, ◌++◌, ◌∷◌, [], IfOk, OnOk, decimal, replicate};
+ghost use Rattle.std.specs.Prelude.{◌≡◌, ◌++◌, ◌∷◌, [], IfOk, OnOk, codes, decimal, replicate};
 ghost use Rattle.mintc_text.specs.Refusals.{refusal_number};
 ghost use Rattle.mintcx_refusals.specs.Messages.{arrow_text, excerpt_text, file_text, head, line_text};
-ghost use Rattle.mintcx_refusals.specs.Messages.{marks_text, note, own_line};
+ghost use Rattle.mintcx_refusals.specs.Messages.{corner_note, marks_text, note, note_text, own_line};
 ghost use Rattle.mintcx_refusals.specs.Messages.{place_text, short_file, short_place, spot_text};
 
 use mintc_report::refusal_text;
@@ -66,6 +66,18 @@ fn own_line(alloc: Global, refusal: &Refusal) -> Result<Bytes, OutOfMemory>
     Ok(Bytes::new(text))
 }
 
+/// Writes what a message ends with, by mintc's own words and a number.
+fn put_note_text(lines: &mut Lines, own: &[u8], number: u32) -> Result<(), OutOfMemory>
+    ensures { OnOk result (lines.new ≡ lines.old ++ note_text own.now number) }
+{
+    lines.put(b"= note: `")?;
+    lines.put(own)?;
+    lines.put(b"`; `mintcx explain ")?;
+    put_number(lines, number as u64)?;
+    lines.put(b"` says more")?;
+    lines.put(b"\n")
+}
+
 /// Writes what a message ends with.
 pub(crate) fn put_note(
     alloc: Global,
@@ -75,12 +87,33 @@ pub(crate) fn put_note(
     ensures { OnOk result (lines.new ≡ lines.old ++ note refusal.now) }
 {
     let own = own_line(alloc, refusal)?;
-    lines.put(b"= note: `")?;
-    lines.put(own.items())?;
-    lines.put(b"`; `mintcx explain ")?;
-    put_number(lines, refusal_number(refusal) as u64)?;
-    lines.put(b"` says more")?;
-    lines.put(b"\n")
+    put_note_text(lines, own.items(), refusal_number(refusal))
+}
+
+/// mintc's own lines of a corner and of its files.
+fn both_lines(alloc: Global, corner: &Refusal, own: &Refusal) -> Result<Bytes, OutOfMemory>
+    ensures { IfOk result (λ both. both ≡ own_line corner.now ++ codes "; " ++ own_line own.now) }
+{
+    let first = own_line(alloc, corner)?;
+    let second = own_line(alloc, own)?;
+    let mut lines = Lines::new(alloc);
+    lines.put(first.items())?;
+    lines.put(b"; ")?;
+    lines.put(second.items())?;
+    Ok(Bytes::new(lines.into_bytes()))
+}
+
+/// Writes what the message of a corner ends with.
+pub(crate) fn put_corner_note(
+    alloc: Global,
+    lines: &mut Lines,
+    corner: &Refusal,
+    own: &Refusal,
+) -> Result<(), OutOfMemory>
+    ensures { OnOk result (lines.new ≡ lines.old ++ corner_note corner.now own.now) }
+{
+    let both = both_lines(alloc, corner, own)?;
+    put_note_text(lines, both.items(), refusal_number(corner))
 }
 
 /// Writes a byte so many times.
