@@ -78,7 +78,7 @@ def examples(folder):
         for line, status in zip(lines, statuses):
             words, answer = line.split(" > ")
             name, *words = words.split()
-            yield f"{folder.relative_to(TOP)}: {line}", folder, PROGRAMS[name], words, int(status), (folder / answer).read_text()
+            yield f"{folder.relative_to(TOP)}: {line}", folder, PROGRAMS[name], words, int(status), (folder / answer).read_bytes().decode()
 
 
 def other_answers(what, ran, status, wanted):
