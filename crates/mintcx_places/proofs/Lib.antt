@@ -1,3 +1,4 @@
 mod FeedLaws
+mod ListedLaws
 mod ShownLaws
 mod TurnLaws

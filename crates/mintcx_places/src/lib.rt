@@ -6,11 +6,13 @@
 #![tactic(auto)]
 
 mod excerpts;
+mod laws;
 mod lines;
 mod statements;
 #[cfg(test)]
 mod tests;
 
 pub use excerpts::{Excerpt, excerpt_of};
+pub use laws::statements_are_listed;
 pub use lines::{Range, Spot, line_range, spot_of};
 pub use statements::statement_range;

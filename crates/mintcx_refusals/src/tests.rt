@@ -292,10 +292,13 @@ error[1]: this part of the delays isn't read
 #[test]
 fn corners_are_told_with_their_own_refusals(rt: HostRuntime) -> Result<(), OutOfMemory> {
     let alloc = rt.alloc();
-    let mut names = names(alloc)?;
-    names.swap_remove(1);
-    names.push(Name::new(alloc, b"hot.sdf")?)?;
-    names.push(Name::new(alloc, b"cold.sdf")?)?;
+    let names = vec![in alloc;
+        Name::new(alloc, b"top.v")?,
+        Name::new(alloc, b"cells.toml")?,
+        Name::new(alloc, b"clock.toml")?,
+        Name::new(alloc, b"hot.sdf")?,
+        Name::new(alloc, b"cold.sdf")?,
+    ]?;
     let inputs = Inputs {
         roles: CORNERS,
         names: &names,

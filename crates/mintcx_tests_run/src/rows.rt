@@ -317,7 +317,18 @@ const TABLE: Rows = Rows {
         ),
         (
             "mintcx check two.cert",
-            "2||error[1]: refused 1 schedule 1\n|",
+            "2||error[1]: this line of the schedule is out of form
+ --> two.cert:1:1
+1 | certificate 2
+  | ^^^^^^^^^^^^^
+  = why: the lines are `schedule 1`, `den D`, `cycle C`, `phases K`, K times `phase START WIDTH` and `end`
+  = help: mend this line, or what counts the lines before it
+  = note: `refused 1 schedule 1`; `mintcx explain 1` says more
+|",
+        ),
+        (
+            "mintcx check two.cert --errors short",
+            "2||two.cert:1:1: error[1]: this line of the schedule is out of form\n|",
         ),
         (
             "mintcx optimise -p chip/mintc.toml",
@@ -348,7 +359,14 @@ const TABLE: Rows = Rows {
         ),
         (
             "mintcx optimise --certificate own.cert --table two.cert",
-            "2||error[1]: refused 1 table 1\n|",
+            "2||error[1]: this line of the table is out of form
+ --> two.cert:1:1
+1 | certificate 2
+  | ^^^^^^^^^^^^^
+  = why: its parts are phases, elements, inner bits, arcs, bounds and `end`, in this order
+  = help: mend this line, or what counts the lines before it
+  = note: `refused 1 table 1`; `mintcx explain 1` says more
+|",
         ),
         (
             "mintcx optimise --certificate no/own.cert",
@@ -369,6 +387,18 @@ const TABLE: Rows = Rows {
         ("mintcx safe", SAFE),
         ("mintcx slack", SLACK),
         ("mintcx slack --histogram", BARS),
+        (
+            "mintcx slack --format csv",
+            "0|from,to,delay,slack\r\na,b,30,0\r\nb,a,70,0\r\n||",
+        ),
+        (
+            "mintcx optimise --format csv --unit ps",
+            "0|cycle,from,at,borrows,delay,to\r\n1,a,0,0,30,b\r\n1,b,30,20,70,a\r\n||",
+        ),
+        (
+            "mintcx slack --histogram --format csv",
+            "3||error: '--format csv' isn't there yet for this; 'optimise' and 'slack' have it\n|",
+        ),
         ("mintcx verify two.cert", VALID),
         ("mintcx schedule", TOLD_SCHEDULE),
         ("mintcx schedule --format plain", TOLD_SCHEDULE),
@@ -407,7 +437,12 @@ const FILES: Rows = Rows {
         ),
         (
             "mintcx corners --netlist two.v --sdf two.sdf --sdf two.sdf --lib two.v --clock clock.toml",
-            "2||error[1]: refused 1 cells 0\n|",
+            "2||error[1]: this statement of the library is out of form
+ --> two.v
+ = why: it doesn't begin as a library does
+ = help: end it with `;`, or fetch the library again
+ = note: `refused 1 cells 0`; `mintcx explain 1` says more
+|",
         ),
         (
             "mintcx optimise --netlist two.v --sdf two.sdf --lib two.lib --clock-cell X --clock clock.toml",
