@@ -23,4 +23,5 @@ pub record IsListed (text : List ℕ) (before : ℕ) (range : Range) : Type 0 wh
 
 -- the statement behind so many others is that entry of the list of all statements
 abbrev pub StatementsAreListed : Type 0
-StatementsAreListed = (text : List ℕ) (before : ℕ) (range : Range) → IsBehind text before range → IsListed text before range
+StatementsAreListed =
+    (text : List ℕ) (before : ℕ) (range : Range) → IsBehind text before range → IsListed text before range

@@ -88,8 +88,8 @@ IsExcerptOf file refused excerpt =
 
 -- The message of a refusal: what it is, behind its number; where, in the file that it speaks of; some advice; and
 -- mintc's own line.
-pub record IsMessage (roles : List Role) (names : List (List ℕ)) (file : List ℕ) (refused : Refusal) (text : List
-    ℕ) : Type 0 where
+pub record IsMessage (roles : List Role) (names : List (List ℕ)) (file : List ℕ) (refused : Refusal)
+    (text : List ℕ) : Type 0 where
   pub what : List ℕ
   pub name : List ℕ
   pub excerpt : Option Excerpt
@@ -100,8 +100,8 @@ pub record IsMessage (roles : List Role) (names : List (List ℕ)) (file : List 
   pub whole : text ≡ (((head refused ++ what ++ 10 ∷ []) ++ place_text name excerpt label) ++ advice) ++ note refused
 
 -- The message that a corner is refused: what its own files are refused for, and where; some advice; and both lines.
-pub record IsCornerMessage (roles : List Role) (names : List (List ℕ)) (file : List ℕ) (corner own : Refusal) (text : List
-    ℕ) : Type 0 where
+pub record IsCornerMessage (roles : List Role) (names : List (List ℕ)) (file : List ℕ) (corner own : Refusal)
+    (text : List ℕ) : Type 0 where
   pub what : List ℕ
   pub own_what : List ℕ
   pub name : List ℕ
@@ -110,8 +110,9 @@ pub record IsCornerMessage (roles : List Role) (names : List (List ℕ)) (file :
   pub advice : List ℕ
   pub is_name : IsNameOf roles names (teller corner own) name
   pub is_excerpt : IsExcerptOf file own excerpt
-  pub whole : text ≡ ((((head corner ++ what ++ 10 ∷ []) ++ (head own ++ own_what ++ 10 ∷ [])) ++ place_text name excerpt label) ++ advice)
-      ++ corner_note corner own
+  pub whole : text
+      ≡ ((((head corner ++ what ++ 10 ∷ []) ++ (head own ++ own_what ++ 10 ∷ [])) ++ place_text name excerpt label)
+      ++ advice) ++ corner_note corner own
 
 -- a file as a line begins with it, if there is one
 abbrev pub short_file : List ℕ → List ℕ
@@ -130,8 +131,8 @@ IsSpotOf file refused spot =
     (λ s. (place : Place) × IsPlace file refused place × IsSpot file place.range.from s)
 
 -- The message of a refusal in one line: where, and what it is, behind its number.
-pub record IsShortMessage (roles : List Role) (names : List (List ℕ)) (file : List ℕ) (refused : Refusal) (text : List
-    ℕ) : Type 0 where
+pub record IsShortMessage (roles : List Role) (names : List (List ℕ)) (file : List ℕ) (refused : Refusal)
+    (text : List ℕ) : Type 0 where
   pub name : List ℕ
   pub spot : Option Spot
   pub what : List ℕ
