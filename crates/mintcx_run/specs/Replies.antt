@@ -1,5 +1,6 @@
 -- What a run replies to its words, over the files of a shelf, and what it leaves.
-use Rattle.std.specs.Prelude.{◌≡◌, ◌<◌, ◌≤◌, ◌+◌, ◌⊎◌, ℕ, List, [], length, slice_set, slice_index_or, Option, Some, None}
+use Rattle.std.specs.Prelude.{◌≡◌, ◌<◌, ◌≤◌, ◌+◌, ◌⊎◌, ℕ, List, [], length, slice_set, slice_index_or}
+use Rattle.std.specs.Prelude.{Option, Some, None}
 use Rattle.std.specs.Prelude.{Bool, true, false, ◌&&◌, not, Ok, Err, Contains, IsUtf8, codes, if◌then◌else◌}
 use Rattle.clap.specs.Words.{App}
 use Rattle.mintc_text.specs.Limits.{large}

@@ -5,8 +5,8 @@ ghost use Rattle.mintc_command.specs.Answers.{MakesAtMost};
 ghost use Rattle.mintc_command_answers.specs.Commands.{IsNumberInRange, roles_of};
 ghost use Rattle.mintcx_answers.specs.Answers.{IsOnFiles};
 ghost use Rattle.mintcx_requests.specs.Requests.{request_of};
-ghost use Rattle.mintcx_run.specs.Replies.{IsEarlyReply, IsFaultyReply, IsGapReply, IsExplanationReply, IsOrderOf, IsOrdered};
-ghost use Rattle.mintcx_run.specs.Replies.{IsOtherReply, IsPageOf, NamesNone};
+ghost use Rattle.mintcx_run.specs.Replies.{IsEarlyReply, IsExplanationReply, IsFaultyReply, IsGapReply};
+ghost use Rattle.mintcx_run.specs.Replies.{IsOrderOf, IsOrdered, IsOtherReply, IsPageOf, NamesNone};
 
 use crate::projects::settings_of;
 use crate::reply::{Place, Reply};

@@ -156,8 +156,8 @@ fn deliver<O: Sink, E: Sink, F: Folder>(
 }
 
 /// Does what the words ask, of which the first is the program's own name: reads the project file and the files that
-/// they name, each once and in their order, and one that is refused once more; makes the file of a certificate, where one is wanted, and writes the
-/// answer, or what is wrong, by one call. Nothing is written before the text is whole.
+/// they name, each once and in their order, and one that is refused once more; makes the file of a certificate, where
+/// one is wanted, and writes the answer, or what is wrong, by one call. Nothing is written before the text is whole.
 pub fn run<S: Shelf, O: Sink, E: Sink, F: Folder>(
     alloc: Global,
     words: &[String],

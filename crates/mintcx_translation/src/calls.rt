@@ -3,7 +3,8 @@ ghost use Rattle.std.specs.Prelude.{◌≡◌, ◌≢◌, ◌<◌, ◌++◌, ◌
 ghost use Rattle.mintc_command_answers.specs.Commands.{IsNumberInRange, roles_of};
 ghost use Rattle.mintcx_translation.specs.Calls.{IsNoCall, aspect_of, call_for, cells_file, certificate_file};
 ghost use Rattle.mintcx_translation.specs.Calls.{command_for, corners_on, design_files, is_certified};
-ghost use Rattle.mintcx_translation.specs.Calls.{form_gap, form_of, has_rows, is_corners, is_fitting, job_of, job_on, of_library};
+ghost use Rattle.mintcx_translation.specs.Calls.{form_gap, form_of, has_rows, is_corners, is_fitting};
+ghost use Rattle.mintcx_translation.specs.Calls.{job_of, job_on, of_library};
 ghost use Rattle.mintcx_translation.specs.Calls.{own_file, plain_gap, source_of, told_in};
 
 use mintc_command_answers::{Command, Job, Source};
