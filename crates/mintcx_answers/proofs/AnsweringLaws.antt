@@ -1,11 +1,8 @@
 -- Answers for people on the texts of a command, and why there is none.
 use Rattle.std.proofs.Common.{◌≡◌, ℕ, List, refl, sym, subst, Option, Some, None, Result, Ok, Err, IfOk, IfErr}
-use Rattle.mintc_text.specs.Stops.{StopsAt}
 use Rattle.mintc_text.specs.declared.limits.Most.{Most}
 use Rattle.mintc_text.specs.declared.refusals.Refusal.{Refusal}
 use Rattle.mintc_text.specs.declared.refusals.Role.{Role}
-use Rattle.mintc_text.specs.declared.refusals.Stop.{Stop}
-use Rattle.mintc_text.specs.declared.refusals.Stop.TheVariants as stop
 use Rattle.mintc_timing.specs.Design.{Timing}
 use Rattle.mintc_timing.specs.declared.clocking.Schedule.{Schedule}
 use Rattle.mintc_certificate.specs.declared.certificate.Certificate.{Certificate}
@@ -18,9 +15,9 @@ use Rattle.mintc_checker.specs.declared.verdict.Verdict.{Verdict}
 use Rattle.mintc_checker.specs.declared.verdict.Verdict.TheVariants.{Valid, Invalid}
 use Rattle.mintc_corners.specs.declared.certificate.CornerCertificate.{CornerCertificate}
 use Rattle.mintc_corners.specs.declared.certificate.CornerCertificate.TheVariants as joint
-use Rattle.mintc_command_answers.specs.Answers.{IsContentRefusal, IsFirstRefusal, IsOfCommand, of_contents, too_long}
+use Rattle.mintc_command_answers.specs.Answers.{IsFirstRefusal, IsOfCommand, too_long}
 use Rattle.mintc_command_answers.specs.Commands.{roles_of}
-use Rattle.mintc_command_answers.specs.Corners.{corner_status}
+use Rattle.mintc_command_answers.specs.Corners.{IsFirstRefused, corner_status, corners_of}
 use Rattle.mintc_command_answers.specs.Jobs.{certificate_status, safe_status, slack_status, verdict_status}
 use Rattle.mintc_command_answers.specs.Sources.{AreShort, Gives, IsLengthRefusal, own_file}
 use Rattle.mintc_command_answers.specs.declared.answer.Answer.{Answer}
@@ -36,6 +33,8 @@ use Rattle.mintcx_cycles.specs.declared.cycles.AtCycle.{AtCycle}
 use Rattle.mintcx_cycles.specs.declared.cycles.AtCycle.TheVariants as at
 use Rattle.mintcx_translation.specs.declared.calls.Aspect.{Aspect}
 use Rattle.mintcx_translation.specs.declared.calls.Aspect.TheVariants as aspect
+use Rattle.mintcx_answers.specs.declared.halts.Halt.{Halt}
+use Rattle.mintcx_answers.specs.Halts.{HaltsAt}
 use Rattle.mintcx_answers.specs.Answers.{HasAnswer, IsContentAnswer, IsJobAnswer, IsJudgement, IsOnFiles, IsOptimiseAnswer, IsVerifyAnswer, certified_status, cycle_status, name_beside}
 
 -- In a run with these limits.
@@ -55,17 +54,10 @@ module _ (most : Most) where
       let same : HasAnswer most own told beside texts view a.status a.text = (short, h) in
       subst (λ (x : Command). HasAnswer most x told beside texts view a.status a.text) (sym is) same
 
-  -- and so is what stops it
-  stopped_at : (command : Command) (texts : List (List ℕ)) (s : Stop) → IsOnFiles command → AreShort most texts → StopsAt (IsContentRefusal most command texts) s → StopsAt (IsFirstRefusal most command texts) s
-  stopped_at (OfDesign job source) texts (stop.Refused refused) on short h = of_contents short h
-  stopped_at (Sample number) texts (stop.Refused refused) on short h = absurd (on number refl)
-  stopped_at (Corners count) texts (stop.Refused refused) on short h = of_contents short h
-  stopped_at command texts stop.OutOfMemory on short h = tt
-
-  pub stopped : {A : Type 0} (r : Result A Stop) (command own : Command) (texts : List (List ℕ)) → command ≡ own → IsOnFiles command → AreShort most texts →
-      IfErr r (StopsAt (IsContentRefusal most own texts)) → IfErr r (StopsAt (IsFirstRefusal most command texts))
-  stopped (Ok a) command own texts is on short h = tt
-  stopped (Err s) command own texts is on short h = stopped_at command texts s on short (subst (λ (x : Command). StopsAt (IsContentRefusal most x texts) s) (sym is) h)
+  -- and so is why there is none
+  pub halted : {A : Type 0} (r : Result A Halt) (command own : Command) (texts : List (List ℕ)) → command ≡ own →
+      IfErr r (HaltsAt (IsFirstRefusal most own texts) (IsFirstRefused most (corners_of texts) 1)) → IfErr r (HaltsAt (IsFirstRefusal most command texts) (IsFirstRefused most (corners_of texts) 1))
+  halted r command own texts is h = subst (λ (x : Command). IfErr r (HaltsAt (IsFirstRefusal most x texts) (IsFirstRefused most (corners_of texts) 1))) (sym is) h
 
   pub refused_length : (command : Command) (texts : List (List ℕ)) (roles : List Role) (refused : Refusal) → IsOnFiles command → roles ≡ roles_of command →
       IsLengthRefusal most roles texts refused → IsFirstRefusal most command texts refused

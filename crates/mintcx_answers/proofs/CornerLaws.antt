@@ -7,7 +7,10 @@ use Rattle.mintc_text.specs.declared.refusals.Refusal.TheVariants as refusal
 use Rattle.mintc_timing.specs.Design.{Timing}
 use Rattle.mintc_certificate.specs.Ranges.{IsCertificateInRange}
 use Rattle.mintc_certificate.specs.declared.certificate.Certificate.{Certificate}
-use Rattle.mintc_command_answers.specs.Corners.{AreGiven, AreTooMany, IsCornersRefusal, IsFirstRefused, corners_of, of_corner, of_elements}
+use Rattle.mintc_command_answers.specs.Corners.{AreGiven, AreTooMany, IsFirstRefused, corners_of, of_corner, of_elements}
+use Rattle.mintc_command_answers.specs.Answers.{IsFirstRefusal, of_contents}
+use Rattle.mintc_command_answers.specs.Sources.{AreShort}
+use Rattle.mintc_command_answers.specs.declared.command.Command.TheVariants.{Corners}
 use Rattle.mintc_command_answers.specs.Jobs.{IsOptimum}
 use Rattle.mintcx_joint.specs.Alone.{HasAlone}
 use Rattle.std.specs.Prelude.{All}
@@ -41,9 +44,11 @@ in_ranges (t ∷ ts) (c ∷ alone) h = All-cons IsCertificateInRange c alone h.0
 pub has_alone : (ts : List Timing) (names : List (List ℕ)) (alone : List Certificate) → length names ≡ length ts → AllZip IsOptimum ts alone → HasAlone ts names alone
 has_alone ts names alone many h = record { named = many; count = AllZip-long IsOptimum ts alone h; each = in_ranges ts alone h }
 
--- what stops the corners of a command is its refusal
-pub of_first : (most : Most) (texts : List (List ℕ)) (corner : ℕ) (own : Refusal) → IsFirstRefused most (corners_of texts) 1 corner own → IsCornersRefusal most (corners_of texts) (refusal.Corner corner)
-of_first most texts corner own first = of_corner corner own first refl
+-- where the corners of a command have no answer, its first refusal is that of a corner, or of all
+pub of_first : (most : Most) (count : ℕ) (texts : List (List ℕ)) (corner : ℕ) (own : Refusal) → AreShort most texts → IsFirstRefused most (corners_of texts) 1 corner own →
+    IsFirstRefusal most (Corners count) texts (refusal.Corner corner)
+of_first most count texts corner own short first = of_contents short (of_corner corner own first refl)
 
-pub of_many : (most : Most) (texts : List (List ℕ)) (refused : Refusal) → ((ts : List Timing) × AreGiven most (corners_of texts) ts × AreTooMany most ts refused) → IsCornersRefusal most (corners_of texts) refused
-of_many most texts refused (ts, given, over) = of_elements ts given over
+pub of_many : (most : Most) (count : ℕ) (texts : List (List ℕ)) (refused : Refusal) → AreShort most texts → ((ts : List Timing) × AreGiven most (corners_of texts) ts × AreTooMany most ts refused) →
+    IsFirstRefusal most (Corners count) texts refused
+of_many most count texts refused short (ts, given, over) = of_contents short (of_elements ts given over)

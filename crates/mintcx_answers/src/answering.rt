@@ -3,10 +3,13 @@ ghost use Rattle.std.specs.Prelude.{◌≡◌, length, IfOk, IfErr};
 ghost use Rattle.mintc_text.specs.Stops.{StopsAt};
 ghost use Rattle.mintc_command_answers.specs.Answers.{IsFirstRefusal, IsJobRefusal, IsOfCommand};
 ghost use Rattle.mintc_command_answers.specs.Commands.{IsNumberInRange, roles_of};
+ghost use Rattle.mintc_command_answers.specs.Corners.{IsFirstRefused, corners_of};
 ghost use Rattle.mintc_command_answers.specs.Sources.{AreShort};
+ghost use Rattle.mintcx_answers.specs.Halts.{HaltsAt};
 ghost use Rattle.mintcx_answers.specs.Answers.{AreNamed, HasAnswer, IsContentAnswer, IsOnFiles};
 
 use crate::corners::corners_answer;
+use crate::halts::Halt;
 use crate::jobs::{Work, job_text};
 use crate::reports::netlist_for;
 use mintc_command_answers::{Answer, Command, Source, own_file, system_of, too_long};
@@ -47,14 +50,14 @@ fn design_text(
 }
 
 /// The answer to a question in a text for people, of the first bytes of the files of its command, shown in this view,
-/// or their first refusal, which is mintc's. The memory of the files is given back once their design is read.
+/// or their first refusal, which is mintc's, and of a corner that of its own files. The memory of the files is given back once their design is read.
 pub fn answer_text(
     alloc: Global,
     limits: &Limits,
     question: &Question<'_>,
     view: &View,
     files: &mut [Bytes],
-) -> Result<Answer, Stop>
+) -> Result<Answer, Halt>
     requires count { length files.old ≡ length (roles_of question.now.command) }
     requires in_range { IsNumberInRange question.now.command }
     requires on_files { IsOnFiles question.now.command }
@@ -63,10 +66,11 @@ pub fn answer_text(
         (λ answer. HasAnswer limits.now question.now.command question.now.aspect question.now.beside.now files.old
         view.now answer.status answer.text) }
     ensures of_command { IfOk result (λ answer. IsOfCommand answer.status) }
-    ensures stop { IfErr result (StopsAt (IsFirstRefusal limits.now question.now.command files.old)) }
+    ensures stop { IfErr result (HaltsAt (IsFirstRefusal limits.now question.now.command files.old)
+        (IsFirstRefused limits.now (corners_of files.old) 1)) }
 {
     if let Some(refusal) = too_long(limits, question.command.roles(), files) {
-        return Err(Stop::Refused(refusal));
+        return Err(Halt::Refused(refusal));
     }
     match question.command {
         Command::OfDesign { job, source } => {
@@ -78,7 +82,7 @@ pub fn answer_text(
                 beside: question.beside,
                 netlist,
             };
-            design_text(alloc, limits, &work, source, view, files)
+            Ok(design_text(alloc, limits, &work, source, view, files)?)
         }
         Command::Corners { count } => corners_answer(
             alloc,

@@ -1,23 +1,24 @@
 //! The optimum of several corners.
 ghost use Rattle.std.specs.Prelude.{◌≡◌, ◌≤◌, length, IfErr, IfOk};
 ghost use Rattle.std.specs.List.{AllZip};
-ghost use Rattle.mintc_text.specs.Stops.{StopsAt};
 ghost use Rattle.mintc_text.specs.declared.limits.TheConstants.{MOST_ELEMENTS};
 ghost use Rattle.mintc_corners.specs.Joint.{AreCorners};
-ghost use Rattle.mintc_command_answers.specs.Answers.{IsContentRefusal};
+ghost use Rattle.mintc_command_answers.specs.Answers.{IsFirstRefusal};
 ghost use Rattle.mintc_command_answers.specs.Commands.{IsNumberInRange, roles_of};
-ghost use Rattle.mintc_command_answers.specs.Corners.{corner_status, elements_together};
+ghost use Rattle.mintc_command_answers.specs.Corners.{IsFirstRefused, corner_status, corners_of, elements_together};
 ghost use Rattle.mintc_command_answers.specs.Jobs.{IsOptimum};
 ghost use Rattle.mintc_command_answers.specs.Sources.{AreShort};
 ghost use Rattle.mintcx_translation.specs.declared.calls.Aspect.{Aspect};
 ghost use Rattle.mintcx_answers.specs.Answers.{IsContentAnswer, IsCornersAnswer};
+ghost use Rattle.mintcx_answers.specs.Halts.{HaltsAt};
 
+use crate::halts::Halt;
 use mintc_certificate::Certificate;
 use mintc_command_answers::{
     Answer, Command, CornerStop, Status, accepted_corners, certificate_from, optimum,
 };
 use mintc_corners::CornerCertificate;
-use mintc_text::{Bytes, Limits, Name, OutOfMemory, Refusal, Stop};
+use mintc_text::{Bytes, Limits, Name, OutOfMemory};
 use mintc_timing::System;
 use mintcx_frame::View;
 use mintcx_joint::{Corners, corners_text};
@@ -75,20 +76,6 @@ fn joint_answer(
     })
 }
 
-/// That the files of a corner, counted from 1, are refused.
-fn refused_corner(corner: u32) -> Stop
-    ensures { result ≡ Stop.Refused (Refusal.Corner corner) }
-{
-    Stop::Refused(Refusal::Corner { file: corner })
-}
-
-/// That all corners are refused.
-fn refused_corners(refusal: Refusal) -> Stop
-    ensures { result ≡ Stop.Refused refusal }
-{
-    Stop::Refused(refusal)
-}
-
 /// The text of the optimum of all corners of texts that aren't too long, or their first refusal.
 pub(crate) fn corners_answer(
     alloc: Global,
@@ -97,7 +84,7 @@ pub(crate) fn corners_answer(
     names: &[Name],
     view: &View,
     texts: &[Bytes],
-) -> Result<Answer, Stop>
+) -> Result<Answer, Halt>
     requires count { length texts.now ≡ length (roles_of (Command.Corners count)) }
     requires in_range { IsNumberInRange (Command.Corners count) }
     requires names { length names.now ≡ count }
@@ -105,13 +92,14 @@ pub(crate) fn corners_answer(
     ensures value { (told : Aspect) → IfOk result
         (λ answer. IsContentAnswer limits.now (Command.Corners count) told names.now texts.now view.now answer.status
         answer.text) }
-    ensures stop { IfErr result (StopsAt (IsContentRefusal limits.now (Command.Corners count) texts.now)) }
+    ensures stop { IfErr result (HaltsAt (IsFirstRefusal limits.now (Command.Corners count) texts.now)
+        (IsFirstRefused limits.now (corners_of texts.now) 1)) }
 {
     let _most = limits.most();
     match accepted_corners(alloc, limits, count, texts) {
         Ok(systems) => Ok(joint_answer(alloc, systems.as_slice(), names, view)?),
-        Err(CornerStop::Refused { corner, own: _own }) => Err(refused_corner(corner)),
-        Err(CornerStop::TooMany(refusal)) => Err(refused_corners(refusal)),
-        Err(CornerStop::OutOfMemory) => Err(Stop::OutOfMemory),
+        Err(CornerStop::Refused { corner, own }) => Err(Halt::Corner { corner, own }),
+        Err(CornerStop::TooMany(refusal)) => Err(Halt::Refused(refusal)),
+        Err(CornerStop::OutOfMemory) => Err(Halt::OutOfMemory),
     }
 }

@@ -2,12 +2,13 @@
 //!
 //! It goes the way of mintc: from the first bytes of the files to the system of their design, from there to what is
 //! asked of it, and at the end to another text, by the crates that write for people. Where mintc refuses the files,
-//! this is mintc's first refusal. Nothing is read or written here.
+//! this is mintc's first refusal, and of a corner that of its own files. Nothing is read or written here.
 #![tactic(auto)]
 
 mod answering;
 mod certificates;
 mod corners;
+mod halts;
 mod jobs;
 mod reports;
 mod schedules;
@@ -16,4 +17,5 @@ mod verdicts;
 
 pub use answering::{Question, answer_text};
 pub use certificates::{Certified, certified_text};
+pub use halts::Halt;
 pub use subjects::{names_beside, subject_of};

@@ -90,20 +90,10 @@ fn is_of_delays(refusal: &Refusal) -> bool
 }
 
 /// Which of two refusals tells the file: that of a corner where its own is about the delays, else its own.
-pub(crate) fn teller<'a>(corner: &'a Refusal, own: &'a Refusal) -> &'a Refusal
+pub fn teller<'a>(corner: &'a Refusal, own: &'a Refusal) -> &'a Refusal
     ensures { result.now ≡ teller corner.now own.now }
 {
     if is_of_delays(own) { corner } else { own }
-}
-
-/// Which file of `corners` it is that the design of a corner is refused for, counted from 0 in the order of its words.
-/// None where that is no file of this command.
-pub fn corner_file_of(roles: &[Role], corner: u32, own: &Refusal) -> Option<usize>
-    ensures some { IfSome result (IsFile roles.now (teller (Refusal.Corner corner) own.now)) }
-    ensures none { IfNone result ((n : ℕ) → IsFile roles.now (teller (Refusal.Corner corner) own.now) n → ⊥) }
-{
-    let corner = Refusal::Corner { file: corner };
-    file_of(roles, teller(&corner, own))
 }
 
 /// The name of a file, by its number from 0 on.

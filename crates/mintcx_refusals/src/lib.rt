@@ -3,7 +3,7 @@
 //! mintc says `refused 8 12`. Here that becomes what is wrong, the file, the line and the column, the line itself with
 //! marks below it, why it is refused and what helps, and at the end mintc's own line. `file_of` tells which file of the
 //! command a refusal speaks of, so that the caller reads that file alone once more; `refusal_message` and
-//! `short_message` take its bytes. For a corner these are `corner_file_of` and `corner_message`. A place is shown where
+//! `short_message` take its bytes. For a corner these are the file of `teller`, and `corner_message`. A place is shown where
 //! it is known: statements of the netlist, and lines of tables, schedules and certificates.
 #![tactic(auto)]
 
@@ -19,6 +19,6 @@ mod tests;
 mod whats;
 mod writing;
 
-pub use files::{Inputs, corner_file_of, file_of};
+pub use files::{Inputs, file_of, teller};
 pub use messages::{corner_message, refusal_message, short_message};
 pub use writing::refusal_number;

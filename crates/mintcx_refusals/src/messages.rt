@@ -81,7 +81,7 @@ pub fn refusal_message(
 }
 
 /// The message that a corner is refused, counted from 1, for what its own files are refused for: as `refusal_message`
-/// of that, below a line that says which corner it is. `file` is what `corner_file_of` says, read once more, or empty.
+/// of that, below a line that says which corner it is. `file` is that of `teller`, read once more, or empty.
 pub fn corner_message(
     alloc: Global,
     corner: u32,

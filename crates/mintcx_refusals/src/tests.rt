@@ -1,5 +1,5 @@
 //! Messages by hand.
-use crate::{Inputs, corner_file_of, corner_message, file_of, refusal_message, short_message};
+use crate::{Inputs, corner_message, file_of, refusal_message, short_message, teller};
 use mintc_text::{Kind, Name, OutOfMemory, Refusal, Role};
 use std::alloc::Global;
 use std::process::Abort;
@@ -309,8 +309,9 @@ fn corners_are_told_with_their_own_refusals(rt: HostRuntime) -> Result<(), OutOf
     };
     let message = corner_message(alloc, 2, &own, &inputs, b"(DELAYFILE\n")?;
     assert!(rt; message.items() == CORNER.as_bytes());
-    assert!(rt; corner_file_of(CORNERS, 2, &own) == Some(4));
-    assert!(rt; corner_file_of(CORNERS, 2, &Refusal::NoModule { entry: 1 }) == Some(0));
+    let corner = Refusal::Corner { file: 2 };
+    assert!(rt; file_of(CORNERS, teller(&corner, &own)) == Some(4));
+    assert!(rt; file_of(CORNERS, teller(&corner, &Refusal::NoModule { entry: 1 })) == Some(0));
     Ok(())
 }
 

@@ -6,6 +6,7 @@ use Rattle.mintc_text.specs.Outside.{Files}
 use Rattle.mintc_command.specs.Answers.{AreFronts, MakesAtMost}
 use Rattle.mintc_command.proofs.SharedCalls.{MakesAtMost-none, MakesAtMost-sum}
 use Rattle.mintc_text.specs.declared.refusals.Refusal.{Refusal}
+use Rattle.mintc_text.specs.declared.refusals.Refusal.TheVariants as refusal
 use Rattle.mintc_command_answers.specs.declared.status.Status.TheVariants.{Usage}
 use Rattle.mintcx_requests.specs.Requests.{Text, request_of}
 use Rattle.mintcx_requests.specs.declared.given.Given.{Given}
@@ -16,7 +17,7 @@ use Rattle.mintcx_explanations.specs.Explanations.{IsOfNumber, IsRefusalNumber, 
 use Rattle.mintcx_run.specs.declared.answers.Told.{Told}
 use Rattle.mintcx_run.specs.declared.orders.Order.{Order}
 use Rattle.mintcx_run.specs.declared.reply.Reply.{Reply}
-use Rattle.mintcx_run.specs.Replies.{AreUnread, IsCallReply, IsEarlyReply, IsExplanationReply, IsFrontsAnswer, IsFrontsRefusal, IsGiven, IsGivenReply, IsMessage, IsOrdered, IsOtherReply, IsPageOf, IsPlaced, IsRefusalReply, IsReply, IsSettings, IsUnread, IsWordsReply, NamesNone}
+use Rattle.mintcx_run.specs.Replies.{AreUnread, IsCallReply, IsCornerReply, IsEarlyReply, IsExplanationReply, IsFrontsAnswer, IsFrontsRefusal, IsGiven, IsGivenReply, IsMessage, IsOrdered, IsOtherReply, IsPageOf, IsPlaced, IsRefusalReply, IsRefusedCorner, IsReply, IsSettings, IsUnread, IsWordsReply, NamesNone}
 
 -- an explanation is asked for, and given
 pub explained : (asked : Request) (topic : Text) (reply : Reply) → asked ≡ request.Explain topic → IsExplanationReply topic reply → IsOtherReply asked reply
@@ -47,7 +48,11 @@ call_told files order fronts told reply are h placed = inr (fronts, are, inr (in
 
 pub call_refused : (files : Option Files) (order : Order) (fronts : List Text) (refused : Refusal) (reply : Reply) → AreFronts files (MOST_BYTES + 1) order.call.files fronts → IsFrontsRefusal order fronts refused →
     IsRefusalReply files order refused reply → IsCallReply files order reply
-call_refused files order fronts refused reply are h said = inr (fronts, are, inr (inr (refused, h, said)))
+call_refused files order fronts refused reply are h said = inr (fronts, are, inr (inr (inl (refused, h, said))))
+
+pub call_refused_corner : (files : Option Files) (order : Order) (fronts : List Text) (corner : ℕ) (own : Refusal) (reply : Reply) → AreFronts files (MOST_BYTES + 1) order.call.files fronts →
+    IsFrontsRefusal order fronts (refusal.Corner corner) → IsRefusedCorner order fronts corner own → IsCornerReply files order corner own reply → IsCallReply files order reply
+call_refused_corner files order fronts corner own reply are h first said = inr (fronts, are, inr (inr (inr (corner, own, h, first, said))))
 
 -- with one read for the project file, and one for each file
 pub given_answered : (given : Given) (files : Option Files) (order : Order) (reply : Reply) (a b c : Option ℕ) → IsOrdered given files order → IsCallReply files order reply →

@@ -1,7 +1,7 @@
 -- What a run replies to its words, over the files of a shelf, and what it leaves.
 use Rattle.std.specs.Prelude.{◌≡◌, ◌<◌, ◌≤◌, ◌+◌, ◌⊎◌, ℕ, List, [], length, slice_set, slice_index_or}
 use Rattle.std.specs.Prelude.{Option, Some, None}
-use Rattle.std.specs.Prelude.{Bool, true, false, ◌&&◌, not, Ok, Err, Contains, IsUtf8, codes, if◌then◌else◌}
+use Rattle.std.specs.Prelude.{Bool, true, false, ◌&&◌, not, Result, Ok, Err, Contains, IsUtf8, codes, if◌then◌else◌}
 use Rattle.clap.specs.Words.{App}
 use Rattle.mintc_text.specs.Limits.{large}
 use Rattle.mintc_text.specs.declared.limits.TheConstants.{MOST_BYTES}
@@ -24,7 +24,8 @@ use Rattle.mintc_command_answers.specs.declared.status.Status.TheVariants.{Done,
 use Rattle.mintc_command_answers.specs.declared.status.Status.TheVariants.{OutOfMemory}
 use Rattle.mintcx_explanations.specs.Explanations.{IsOfNumber, IsRefusalNumber, Names}
 use Rattle.mintc_command_answers.specs.Commands.{roles_of}
-use Rattle.mintcx_refusals.specs.Files.{IsFile}
+use Rattle.mintc_command_answers.specs.Corners.{IsFirstRefused, corners_of}
+use Rattle.mintcx_refusals.specs.Files.{IsFile, teller}
 use Rattle.mintcx_refusals.specs.Messages as messages
 use Rattle.mintcx_manners.specs.declared.manners.Detail.{Detail}
 use Rattle.mintcx_manners.specs.declared.manners.Detail.TheVariants as detail
@@ -290,6 +291,13 @@ abbrev pub IsFrontsRefusal : Order → List Text → Refusal → Type 0
 IsFrontsRefusal order fronts refused = ((order.call.of_library ≡ false) × IsRefused order fronts refused)
     ⊎ ((order.call.of_library ≡ true) × IsRefusalOfLibrary order fronts refused)
 
+-- a corner is the first whose own files are refused, and so they are, with the cells of a library by their description
+abbrev pub IsRefusedCorner : Order → List Text → ℕ → Refusal → Type 0
+IsRefusedCorner order fronts corner own =
+    ((order.call.of_library ≡ false) × IsFirstRefused large (corners_of fronts) 1 corner own)
+    ⊎ ((order.call.of_library ≡ true) × ((described : List Text) × AreDescribed fronts described
+    × IsFirstRefused large (corners_of described) 1 corner own))
+
 -- ---- refusals, as they are told
 
 -- The first bytes of the file that a refusal speaks of, one more than a file may have; or none.
@@ -307,18 +315,39 @@ IsTextOfRefusal detail.Short order file refused text =
 abbrev pub IsRefusalText : Order → Text → Refusal → Text → Type 0
 IsRefusalText order file refused text = IsTextOfRefusal order.manner.detail order file refused text
 
--- a refusal is told, by a message for the second sink
-pub record IsToldRefusal (files : Option Files) (order : Order) (refused : Refusal) (reply : Reply) : Type 0 where
-  pub file : Text
-  pub is_file : IsRefusedFile files order refused file
-  pub is_text : IsRefusalText order file refused reply.text
+-- what is said of a corner, and of what its own files are refused for
+abbrev pub IsTextOfCorner : Detail → Order → Text → ℕ → Refusal → Text → Type 0
+IsTextOfCorner detail.Full order file corner own text =
+    messages.IsCornerMessage (roles_of order.call.command) order.call.files file (refusal.Corner corner) own text
+IsTextOfCorner detail.Short order file corner own text =
+    messages.IsShortMessage (roles_of order.call.command) order.call.files file (refusal.Corner corner) text
+
+abbrev pub IsCornerText : Order → Text → ℕ → Refusal → Text → Type 0
+IsCornerText order file corner own text = IsTextOfCorner order.manner.detail order file corner own text
+
+-- a text is told of files that are refused, by a message for the second sink
+pub record IsTold (text : Text) (reply : Reply) : Type 0 where
+  pub said : reply.text ≡ text
   pub status : reply.status ≡ Refused
   pub place : reply.place ≡ place.Errors
   pub beside : reply.beside ≡ None
 
 -- that, or memory was wanting
+abbrev pub IsSaidReply : {E : Type 0} → Result Text E → Reply → Type 0
+IsSaidReply (Ok text) reply = IsTold text reply
+IsSaidReply (Err e) reply = IsOutOfMemory reply
+
+-- why files are refused is told, or memory was wanting
 abbrev pub IsRefusalReply : Option Files → Order → Refusal → Reply → Type 0
-IsRefusalReply files order refused reply = IsOutOfMemory reply ⊎ IsToldRefusal files order refused reply
+IsRefusalReply files order refused reply = IsOutOfMemory reply
+    ⊎ ((file : Text) × (text : Text) × IsRefusedFile files order refused file × IsRefusalText order file refused text
+    × IsTold text reply)
+
+-- the same of a corner, by the file that is at fault: its delays, or another one
+abbrev pub IsCornerReply : Option Files → Order → ℕ → Refusal → Reply → Type 0
+IsCornerReply files order corner own reply = IsOutOfMemory reply
+    ⊎ ((file : Text) × (text : Text) × IsRefusedFile files order (teller (refusal.Corner corner) own) file
+    × IsCornerText order file corner own text × IsTold text reply)
 
 -- ---- the reply
 
@@ -326,7 +355,9 @@ IsRefusalReply files order refused reply = IsOutOfMemory reply ⊎ IsToldRefusal
 abbrev pub IsFrontsReply : Option Files → Order → List Text → Reply → Type 0
 IsFrontsReply files order fronts reply = IsOutOfMemory reply
     ⊎ (((told : Told) × IsFrontsAnswer order fronts told × IsPlaced order told reply)
-    ⊎ ((refused : Refusal) × IsFrontsRefusal order fronts refused × IsRefusalReply files order refused reply))
+    ⊎ (((refused : Refusal) × IsFrontsRefusal order fronts refused × IsRefusalReply files order refused reply)
+    ⊎ ((corner : ℕ) × (own : Refusal) × IsFrontsRefusal order fronts (refusal.Corner corner)
+    × IsRefusedCorner order fronts corner own × IsCornerReply files order corner own reply)))
 
 -- The reply to a call of mintc over the files of a shelf: a file can't be read, or the answer in its form, of the first
 -- bytes of the files, one more than a file may have.

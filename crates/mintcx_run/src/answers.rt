@@ -4,15 +4,18 @@ ghost use Rattle.mintc_text.specs.Limits.{large};
 ghost use Rattle.mintc_text.specs.Stops.{StopsAt};
 ghost use Rattle.mintc_command_answers.specs.Answers.{IsFirstRefusal, IsOfCommand};
 ghost use Rattle.mintc_command_answers.specs.Commands.{IsNumberInRange, roles_of};
+ghost use Rattle.mintc_command_answers.specs.Corners.{IsFirstRefused, corners_of};
 ghost use Rattle.mintcx_answers.specs.Answers.{IsOnFiles};
+ghost use Rattle.mintcx_answers.specs.Halts.{HaltsAt};
 ghost use Rattle.mintcx_run.specs.Replies.{IsAnswered, IsCertified, IsForPeople, IsFrontsAnswer, IsFrontsRefusal};
-ghost use Rattle.mintcx_run.specs.Replies.{IsLone, IsPlain, IsRefused, certified_source, is_own};
+ghost use Rattle.mintcx_run.specs.Replies.{IsLone, IsPlain, IsRefused, IsRefusedCorner, certified_source};
+ghost use Rattle.mintcx_run.specs.Replies.{is_own};
 
 use crate::libraries::describe;
 use crate::orders::Order;
 use mintc_command_answers::{Answer, Command, Job, Source, Status, answer_to};
 use mintc_text::{Bytes, Limits, OutOfMemory, Stop};
-use mintcx_answers::{Question, answer_text, certified_text, names_beside, subject_of};
+use mintcx_answers::{Halt, Question, answer_text, certified_text, names_beside, subject_of};
 use mintcx_frame::View;
 use mintcx_manners::Format;
 use mintcx_translation::{Aspect, Call};
@@ -94,14 +97,15 @@ fn certified_answer(
 }
 
 /// The answer to a call for people, with no certificate beside it.
-fn lone_answer(alloc: Global, order: &Order, view: &View, files: &mut [Bytes]) -> Result<Told, Stop>
+fn lone_answer(alloc: Global, order: &Order, view: &View, files: &mut [Bytes]) -> Result<Told, Halt>
     requires count { length files.old ≡ length (roles_of order.now.call.command) }
     requires names { length order.now.call.files ≡ length (roles_of order.now.call.command) }
     requires in_range { IsNumberInRange order.now.call.command }
     requires on_files { IsOnFiles order.now.call.command }
     ensures value { IfOk result (IsLone order.now files.old view.now) }
     ensures of_command { IfOk result (λ told. IsOfCommand told.status) }
-    ensures stop { IfErr result (StopsAt (IsFirstRefusal large order.now.call.command files.old)) }
+    ensures halt { IfErr result (HaltsAt (IsFirstRefusal large order.now.call.command files.old)
+        (IsFirstRefused large (corners_of files.old) 1)) }
 {
     let beside = names_beside(alloc, order.call.command, order.call.files.items(), files)?;
     let question = Question {
@@ -118,17 +122,18 @@ fn lone_answer(alloc: Global, order: &Order, view: &View, files: &mut [Bytes]) -
 }
 
 /// The answer to a call for people.
-fn people_answer(alloc: Global, order: &Order, files: &mut [Bytes]) -> Result<Told, Stop>
+fn people_answer(alloc: Global, order: &Order, files: &mut [Bytes]) -> Result<Told, Halt>
     requires count { length files.old ≡ length (roles_of order.now.call.command) }
     requires names { length order.now.call.files ≡ length (roles_of order.now.call.command) }
     requires in_range { IsNumberInRange order.now.call.command }
     requires on_files { IsOnFiles order.now.call.command }
     ensures value { IfOk result (IsForPeople order.now files.old) }
-    ensures stop { IfErr result (StopsAt (IsFirstRefusal large order.now.call.command files.old)) }
+    ensures halt { IfErr result (HaltsAt (IsFirstRefusal large order.now.call.command files.old)
+        (IsFirstRefused large (corners_of files.old) 1)) }
 {
     let view = view_of(alloc, order, files)?;
     match certified_source(&order.call) {
-        Some(source) => certified_answer(alloc, source, &view, files),
+        Some(source) => Ok(certified_answer(alloc, source, &view, files)?),
         None => lone_answer(alloc, order, &view, files),
     }
 }
@@ -142,13 +147,14 @@ fn is_own(order: &Order) -> bool
 }
 
 /// The answer to a call in its form, of the first bytes of its files.
-fn answer_of(alloc: Global, order: &Order, files: &mut [Bytes]) -> Result<Told, Stop>
+fn answer_of(alloc: Global, order: &Order, files: &mut [Bytes]) -> Result<Told, Halt>
     requires count { length files.old ≡ length (roles_of order.now.call.command) }
     requires names { length order.now.call.files ≡ length (roles_of order.now.call.command) }
     requires in_range { IsNumberInRange order.now.call.command }
     requires on_files { IsOnFiles order.now.call.command }
     ensures value { IfOk result (IsAnswered order.now files.old) }
-    ensures stop { IfErr result (StopsAt (IsRefused order.now files.old)) }
+    ensures halt { IfErr result (HaltsAt (IsRefused order.now files.old)
+        (IsFirstRefused large (corners_of files.old) 1)) }
 {
     if is_own(order) {
         Ok(plain_answer(alloc, order, files)?)
@@ -158,7 +164,7 @@ fn answer_of(alloc: Global, order: &Order, files: &mut [Bytes]) -> Result<Told, 
 }
 
 /// The answer to a call, of the first bytes of its files; those of a library are described first.
-pub(crate) fn fronts_answer(alloc: Global, order: &Order, files: &mut [Bytes]) -> Result<Told, Stop>
+pub(crate) fn fronts_answer(alloc: Global, order: &Order, files: &mut [Bytes]) -> Result<Told, Halt>
     requires count { length files.old ≡ length (roles_of order.now.call.command) }
     requires names { length order.now.call.files ≡ length (roles_of order.now.call.command) }
     requires in_range { IsNumberInRange order.now.call.command }
@@ -166,13 +172,11 @@ pub(crate) fn fronts_answer(alloc: Global, order: &Order, files: &mut [Bytes]) -
     requires library { order.now.call.of_library ≡ true → 1 < length order.now.call.files }
     ensures value { IfOk result (IsFrontsAnswer order.now files.old) }
     ensures of_command { IfOk result (λ told. IsOfCommand told.status) }
-    ensures stop { IfErr result (StopsAt (IsFrontsRefusal order.now files.old)) }
+    ensures halt { IfErr result (HaltsAt (IsFrontsRefusal order.now files.old) (IsRefusedCorner order.now files.old)) }
 {
     if order.call.of_library {
-        match describe(alloc, files) {
-            Ok(()) => answer_of(alloc, order, files),
-            Err(stop) => Err(stop),
-        }
+        describe(alloc, files)?;
+        answer_of(alloc, order, files)
     } else {
         answer_of(alloc, order, files)
     }

@@ -11,9 +11,10 @@ use crate::answers::{Told, fronts_answer};
 use crate::orders::{Order, order_for};
 use crate::projects::given_of;
 use crate::reading::read_files;
-use crate::refusals::refused;
+use crate::refusals::{refused, refused_corner};
 use crate::reply::{Beside, Place, Reply};
-use mintc_text::{Bytes, Name, Shelf, Stop};
+use mintc_text::{Bytes, Name, Shelf};
+use mintcx_answers::Halt;
 use mintcx_requests::{Given, Manner};
 use std::alloc::Global;
 
@@ -71,8 +72,9 @@ fn call_reply<S: Shelf>(alloc: Global, order: Order, shelf: &mut S) -> Reply
     };
     match fronts_answer(alloc, &order, files.as_mut_slice()) {
         Ok(told) => placed(order, told),
-        Err(Stop::Refused(refusal)) => refused(alloc, &order, &refusal, shelf),
-        Err(Stop::OutOfMemory) => Reply::out_of_memory(alloc),
+        Err(Halt::Refused(refusal)) => refused(alloc, &order, &refusal, shelf),
+        Err(Halt::Corner { corner, own }) => refused_corner(alloc, &order, corner, &own, shelf),
+        Err(Halt::OutOfMemory) => Reply::out_of_memory(alloc),
     }
 }
 

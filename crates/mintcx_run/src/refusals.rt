@@ -3,7 +3,8 @@ ghost use Rattle.std.specs.Prelude.{◌≡◌, ◌≢◌, ◌≤◌, length, IfO
 ghost use Rattle.mintc_text.specs.Outside.{Rose};
 ghost use Rattle.mintc_command.specs.Answers.{MakesAtMost};
 ghost use Rattle.mintc_command_answers.specs.Commands.{IsNumberInRange, roles_of};
-ghost use Rattle.mintcx_run.specs.Replies.{IsRefusalReply, IsRefusalText, IsRefusedFile};
+ghost use Rattle.mintcx_run.specs.Replies.{IsCornerReply, IsCornerText, IsRefusalReply, IsRefusalText};
+ghost use Rattle.mintcx_run.specs.Replies.{IsRefusedFile, IsSaidReply};
 
 use crate::orders::Order;
 use crate::reading::read_file;
@@ -11,7 +12,7 @@ use crate::reply::{Place, Reply};
 use mintc_command_answers::Status;
 use mintc_text::{Bytes, OutOfMemory, Refusal, Shelf};
 use mintcx_manners::Detail;
-use mintcx_refusals::{Inputs, file_of, refusal_message, short_message};
+use mintcx_refusals::{Inputs, corner_message, file_of, refusal_message, short_message, teller};
 use std::alloc::Global;
 
 /// The first bytes of the file that a refusal speaks of, read once more; none where it speaks of none, or where that
@@ -47,6 +48,43 @@ fn said(alloc: Global, order: &Order, refusal: &Refusal, file: &[u8]) -> Result<
     }
 }
 
+/// What is said of a corner, counted from 1, and of what its own files are refused for, with the bytes of the file that
+/// this speaks of.
+fn said_of_corner(
+    alloc: Global,
+    order: &Order,
+    corner: u32,
+    own: &Refusal,
+    file: &[u8],
+) -> Result<Bytes, OutOfMemory>
+    requires in_range { IsNumberInRange order.now.call.command }
+    ensures { IfOk result (IsCornerText order.now file.now corner own.now) }
+{
+    let inputs = Inputs {
+        roles: order.call.command.roles(),
+        names: order.call.files.items(),
+    };
+    match order.manner.detail {
+        Detail::Full => corner_message(alloc, corner, own, &inputs, file),
+        Detail::Short => short_message(alloc, &Refusal::Corner { file: corner }, &inputs, file),
+    }
+}
+
+/// The reply that says why files are refused.
+fn reply_of(alloc: Global, said: Result<Bytes, OutOfMemory>) -> Reply
+    ensures { IsSaidReply said result }
+{
+    match said {
+        Ok(text) => Reply {
+            status: Status::Refused,
+            place: Place::Errors,
+            text,
+            beside: None,
+        },
+        Err(OutOfMemory) => Reply::out_of_memory(alloc),
+    }
+}
+
 /// The reply that the files are refused.
 pub(crate) fn refused<S: Shelf>(
     alloc: Global,
@@ -62,13 +100,28 @@ pub(crate) fn refused<S: Shelf>(
     ensures reads { MakesAtMost 1 (S.calls shelf.old) (S.calls shelf.new) }
 {
     let file = refused_file(alloc, order, refusal, shelf);
-    match said(alloc, order, refusal, file.items()) {
-        Ok(text) => Reply {
-            status: Status::Refused,
-            place: Place::Errors,
-            text,
-            beside: None,
-        },
-        Err(OutOfMemory) => Reply::out_of_memory(alloc),
-    }
+    reply_of(alloc, said(alloc, order, refusal, file.items()))
+}
+
+/// The reply that the files of a corner, counted from 1, are refused, and why they are.
+pub(crate) fn refused_corner<S: Shelf>(
+    alloc: Global,
+    order: &Order,
+    corner: u32,
+    own: &Refusal,
+    shelf: &mut S,
+) -> Reply
+    requires in_range { IsNumberInRange order.now.call.command }
+    requires names { length order.now.call.files ≡ length (roles_of order.now.call.command) }
+    ensures reply { IsCornerReply (S.files shelf.old) order.now corner own.now result }
+    ensures same { S.files shelf.new ≡ S.files shelf.old }
+    ensures later { S.faults shelf.old ≤ S.faults shelf.new }
+    ensures reads { MakesAtMost 1 (S.calls shelf.old) (S.calls shelf.new) }
+{
+    let outer = Refusal::Corner { file: corner };
+    let file = refused_file(alloc, order, teller(&outer, own), shelf);
+    reply_of(
+        alloc,
+        said_of_corner(alloc, order, corner, own, file.items()),
+    )
 }

@@ -1,5 +1,5 @@
 use Rattle.mintc_command_answers.specs.declared.command.Command.TheVariants.{Corners, OfDesign}
-use Rattle.mintcx_answers.proofs.AnsweringLaws.{answered, of_command, refused_length, stopped}
+use Rattle.mintcx_answers.proofs.AnsweringLaws.{answered, halted, of_command, refused_length}
 use Rattle.mintcx_answers.proofs.answering.answer_text.Goals as goal
 
 pub returns-in-Some-clause-stop : goal.returns-in-Some-clause-stop
@@ -15,5 +15,5 @@ returns-in-Corners c =
     record {
       value = answered c.args.limits.now c.corners_answer.result asked.command own asked.aspect asked.beside.now texts c.args.view.now c.in-Corners.is c.in_default.ensures (told.value asked.aspect);
       of_command = of_command c.args.limits.now c.corners_answer.result own asked.aspect asked.beside.now texts c.args.view.now (told.value asked.aspect);
-      stop = stopped c.args.limits.now c.corners_answer.result asked.command own texts c.in-Corners.is c.requires.on_files c.in_default.ensures told.stop;
+      stop = halted c.args.limits.now c.corners_answer.result asked.command own texts c.in-Corners.is told.stop;
     }
