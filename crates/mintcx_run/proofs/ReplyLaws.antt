@@ -1,5 +1,5 @@
 -- The replies to words, requests and calls.
-use Rattle.std.proofs.Common.{arith, ◌≡◌, ◌+◌, ◌<◌, ℕ, List, length, get_or, false, refl, sym, subst, inl, inr, Option, Some, None, MatchOption, Result, Ok, Err, IfErr, Contains}
+use Rattle.std.proofs.Common.{arith, ◌≡◌, ◌+◌, ◌<◌, ℕ, List, length, get_or, true, false, refl, sym, subst, inl, inr, Option, Some, None, MatchOption, Result, Ok, Err, IfErr, Contains}
 use Rattle.std.proofs.lemmas.List.Elements.{Contains-get_or}
 use Rattle.mintc_text.specs.declared.limits.TheConstants.{MOST_BYTES}
 use Rattle.mintc_text.specs.Outside.{Files}
@@ -14,10 +14,15 @@ use Rattle.mintcx_requests.specs.declared.requests.Request.{Request}
 use Rattle.mintcx_requests.specs.declared.requests.Request.TheVariants as request
 use Rattle.mintcx_project.specs.declared.project.Settings.{Settings}
 use Rattle.mintcx_explanations.specs.Explanations.{IsOfNumber, IsRefusalNumber, Names}
+use Rattle.mintc_text.specs.Limits.{large}
+use Rattle.mintc_command_answers.specs.Corners.{IsFirstRefused, corners_of}
+use Rattle.mintcx_answers.specs.Halts.{HaltsAt}
+use Rattle.mintcx_answers.specs.declared.halts.Halt.{Halt}
+use Rattle.mintcx_answers.specs.declared.halts.Halt.TheVariants as halt
 use Rattle.mintcx_run.specs.declared.answers.Told.{Told}
 use Rattle.mintcx_run.specs.declared.orders.Order.{Order}
 use Rattle.mintcx_run.specs.declared.reply.Reply.{Reply}
-use Rattle.mintcx_run.specs.Replies.{AreUnread, IsCallReply, IsCornerReply, IsEarlyReply, IsExplanationReply, IsFrontsAnswer, IsFrontsRefusal, IsGiven, IsGivenReply, IsMessage, IsOrdered, IsOtherReply, IsPageOf, IsPlaced, IsRefusalReply, IsRefusedCorner, IsReply, IsSettings, IsUnread, IsWordsReply, NamesNone}
+use Rattle.mintcx_run.specs.Replies.{AreDescribed, AreUnread, IsCallReply, IsCornerReply, IsEarlyReply, IsExplanationReply, IsFrontsAnswer, IsFrontsRefusal, IsGiven, IsGivenReply, IsMessage, IsOrdered, IsOtherReply, IsPageOf, IsPlaced, IsRefusalReply, IsRefused, IsRefusedCorner, IsReply, IsSettings, IsUnread, IsWordsReply, NamesNone}
 
 -- an explanation is asked for, and given
 pub explained : (asked : Request) (topic : Text) (reply : Reply) → asked ≡ request.Explain topic → IsExplanationReply topic reply → IsOtherReply asked reply
@@ -53,6 +58,14 @@ call_refused files order fronts refused reply are h said = inr (fronts, are, inr
 pub call_refused_corner : (files : Option Files) (order : Order) (fronts : List Text) (corner : ℕ) (own : Refusal) (reply : Reply) → AreFronts files (MOST_BYTES + 1) order.call.files fronts →
     IsFrontsRefusal order fronts (refusal.Corner corner) → IsRefusedCorner order fronts corner own → IsCornerReply files order corner own reply → IsCallReply files order reply
 call_refused_corner files order fronts corner own reply are h first said = inr (fronts, are, inr (inr (inr (corner, own, h, first, said))))
+
+-- why files with the description of a library have no answer
+pub described_halted : {A : Type 0} (r : Result A Halt) (order : Order) (fronts described : List Text) → order.call.of_library ≡ true → AreDescribed fronts described →
+    IfErr r (HaltsAt (IsRefused order described) (IsFirstRefused large (corners_of described) 1)) → IfErr r (HaltsAt (IsFrontsRefusal order fronts) (IsRefusedCorner order fronts))
+described_halted (Ok a) order fronts described of_library are h = tt
+described_halted (Err (halt.Refused refused)) order fronts described of_library are h = inr (of_library, inr (described, are, h))
+described_halted (Err (halt.Corner corner own)) order fronts described of_library are (h, first) = (inr (of_library, inr (described, are, h)), inr (of_library, (described, are, first)))
+described_halted (Err halt.OutOfMemory) order fronts described of_library are h = tt
 
 -- with one read for the project file, and one for each file
 pub given_answered : (given : Given) (files : Option Files) (order : Order) (reply : Reply) (a b c : Option ℕ) → IsOrdered given files order → IsCallReply files order reply →

@@ -1,4 +1,4 @@
-use Rattle.mintcx_run.proofs.ReplyLaws.{call_refused, call_told}
+use Rattle.mintcx_run.proofs.ReplyLaws.{call_refused, call_refused_corner, call_told}
 use Rattle.mintcx_run.proofs.calling.call_reply.Goals as goal
 
 pub returns-in-Ok-fronts_answer-clause-reply : goal.returns-in-Ok-fronts_answer-clause-reply
@@ -9,4 +9,10 @@ returns-in-Ok-fronts_answer-clause-reply g c =
 pub returns-in-Err-Refused-clause-reply : goal.returns-in-Err-Refused-clause-reply
 returns-in-Err-Refused-clause-reply g c =
     call_refused _ c.args.order c.in-Ok.files.items c.in-Err-Refused.refusal c.refused.result (rw c.items.ensures at c.in-Ok.ensures.fronts)
-    (rw (c.as_mut_slice.ensures.value, c.in-Err-Refused.field-0-is) at c.in-Err-Refused.ensures.stop) (rw c.in-Ok.ensures.same at c.refused.ensures.reply)
+    (rw (c.as_mut_slice.ensures.value, c.in-Err-Refused.field-0-is) at c.in-Err-Refused.ensures.halt) (rw c.in-Ok.ensures.same at c.refused.ensures.reply)
+
+pub returns-in-Err-Corner-clause-reply : goal.returns-in-Err-Corner-clause-reply
+returns-in-Err-Corner-clause-reply g c =
+    let halted = rw (c.as_mut_slice.ensures.value, c.in-Err-Corner.field-0-is) at c.in-Err-Corner.ensures.halt in
+    call_refused_corner _ c.args.order c.in-Ok.files.items c.in-Err-Corner.corner _ c.refused_corner.result (rw c.items.ensures at c.in-Ok.ensures.fronts) halted.0 halted.1
+    (rw c.in-Ok.ensures.same at c.refused_corner.ensures.reply)
