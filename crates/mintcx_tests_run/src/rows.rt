@@ -436,6 +436,18 @@ const FILES: Rows = Rows {
             JOINT_OF_LIBRARY,
         ),
         (
+            "mintcx corners --netlist two.sdf --sdf two.sdf --sdf two.sdf --cells two.toml --clock clock.toml",
+            "2||error[22]: corner 1, two.sdf, is refused
+error[1]: this statement isn't structural Verilog
+ --> two.sdf:1:1
+1 | (DELAYFILE (SDFVERSION \"3.0\") (DIVIDER /) (TIMESCALE 1ps)
+  | ^^^^^^^^^^^^^^^^^^^^^^^^^^^^^^^^^^^^^^^^^^^^^^^^^^^^^^^^^
+  = why: each corner has to be a design by itself
+  = help: mend that file
+  = note: `refused 22 1; refused 1 netlist 1`; `mintcx explain 22` says more
+|",
+        ),
+        (
             "mintcx corners --netlist two.v --sdf two.sdf --sdf two.sdf --lib two.v --clock clock.toml",
             "2||error[1]: this statement of the library is out of form
  --> two.v
