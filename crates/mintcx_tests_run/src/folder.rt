@@ -1,5 +1,5 @@
 //! A folder in memory.
-ghost use Rattle.std.specs.Prelude.{None, Some};
+ghost use Rattle.std.specs.Prelude.{◌≡◌, None, Some};
 
 use mintc_text::Failed;
 use mintcx_run::Folder;
@@ -32,7 +32,9 @@ impl MemoryFolder {
     }
 
     /// Keeps the name and the bytes of a file.
-    fn keep(&mut self, name: &[u8], bytes: &[u8]) -> Result<(), AllocError> {
+    fn keep(&mut self, name: &[u8], bytes: &[u8]) -> Result<(), AllocError>
+        ensures { self.new ≡ self.old }
+    {
         self.text.extend_from_slice(name)?;
         self.text.extend_from_slice(bytes)
     }
