@@ -35,7 +35,7 @@ use Rattle.mintcx_translation.specs.declared.calls.Aspect.{Aspect}
 use Rattle.mintcx_translation.specs.declared.calls.Aspect.TheVariants as aspect
 use Rattle.mintcx_answers.specs.declared.halts.Halt.{Halt}
 use Rattle.mintcx_answers.specs.Halts.{HaltsAt}
-use Rattle.mintcx_answers.specs.Answers.{HasAnswer, IsContentAnswer, IsJobAnswer, IsJudgement, IsOnFiles, IsOptimiseAnswer, IsVerifyAnswer, certified_status, cycle_status, name_beside}
+use Rattle.mintcx_answers.specs.Answers.{HasAnswer, IsContentAnswer, IsJobAnswer, IsJudgement, IsOnFiles, IsOptimiseAnswer, IsToldReport, IsVerifyAnswer, certified_status, cycle_status, name_beside}
 
 -- In a run with these limits.
 module _ (most : Most) where
@@ -115,12 +115,19 @@ module _ (most : Most) where
   of_verify aspect.Rows t c design view st text (v, is, same, is_text) = subst IsOfCommand (sym same) (of_verdict v)
   of_verify (aspect.Schedule cycle) t c design view st text (v, is, same, is_text) = subst IsOfCommand (sym same) (of_certified v c)
 
+  of_report : (told : Aspect) (t : Timing) (view : View) (st : Status) (text : List ℕ) → IsToldReport t told view st text → IsOfCommand st
+  of_report aspect.Rows t view st text (c, optimum, same, is_text) = subst IsOfCommand (sym same) (of_certificate c)
+  of_report aspect.Whole t view st text (c, optimum, same, rest) = subst IsOfCommand (sym same) (of_certificate c)
+  of_report (aspect.Cycle cycle) t view st text (c, optimum, same, rest) = subst IsOfCommand (sym same) (of_certificate c)
+  of_report aspect.Histogram t view st text (c, optimum, same, rest) = subst IsOfCommand (sym same) (of_certificate c)
+  of_report (aspect.Schedule cycle) t view st text (c, optimum, same, rest) = subst IsOfCommand (sym same) (of_certificate c)
+
   of_job : (job : Job) (told : Aspect) (beside : List (List ℕ)) (t : Timing) (file : List ℕ) (view : View) (st : Status) (text : List ℕ) → IsJobAnswer most job told beside t file view st text →
       IsOfCommand st
   of_job Check told beside t file view st text (s, is_of, judged) = of_judgement t s view st text judged
   of_job Optimise told beside t file view st text h = of_optimise told t view st text h
   of_job Verify told beside t file view st text (c, is_text, h) = of_verify told t c (name_beside beside) view st text h
-  of_job Report told beside t file view st text (c, optimum, same, rest) = subst IsOfCommand (sym same) (of_certificate c)
+  of_job Report told beside t file view st text h = of_report told t view st text h
   of_job Safe told beside t file view st text (c, optimum, same, rest) = subst IsOfCommand (sym same) (of_safe c)
   of_job Slack told beside t file view st text (few, (x, answer, same, is_text)) = subst IsOfCommand (sym same) (of_slacks x)
 

@@ -143,6 +143,11 @@ abbrev pub IsReportAnswer : Timing → View → Status → List ℕ → Type 0
 IsReportAnswer t view status text = (c : Certificate) × IsOptimum t c × (status ≡ certificate_status c)
     × ((cells : List (List ℕ)) × IsReportText t c cells view text)
 
+-- what is told of `report`: the report, or the rows of its chain
+abbrev pub IsToldReport : Timing → Aspect → View → Status → List ℕ → Type 0
+IsToldReport t aspect.Rows view status text = IsChainAnswer t status text
+IsToldReport t told view status text = IsReportAnswer t view status text
+
 -- the least cycle time of a certificate in femtoseconds, 0 where no schedule is right
 abbrev pub least_cycle : Certificate → Ratio
 least_cycle (certificate.Least s departures chain) = over s.cycle s.den
@@ -220,7 +225,7 @@ IsJobAnswer most Check told beside t file view status text = IsCheckAnswer t fil
 IsJobAnswer most Optimise told beside t file view status text = IsOptimiseAnswer t told view status text
 IsJobAnswer most Verify told beside t file view status text = (c : Certificate) × IsCertificateText most.members file c
     × IsVerifyAnswer t told c (name_beside beside) view status text
-IsJobAnswer most Report told beside t file view status text = IsReportAnswer t view status text
+IsJobAnswer most Report told beside t file view status text = IsToldReport t told view status text
 IsJobAnswer most Safe told beside t file view status text = IsSafeAnswer t view status text
 IsJobAnswer most Slack told beside t file view status text = (element_count t.flat ≤ most.slack)
     × IsSlacksAnswer t told view status text

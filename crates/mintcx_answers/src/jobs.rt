@@ -13,7 +13,7 @@ ghost use Rattle.mintc_slack.specs.Answers.{AreOfPairs};
 ghost use Rattle.mintcx_answers.specs.Answers.{IsChainAnswer, IsCheckAnswer, IsCycleAnswer, IsFail, IsJobAnswer};
 ghost use Rattle.mintcx_answers.specs.Answers.{IsJudgement};
 ghost use Rattle.mintcx_answers.specs.Answers.{IsOptimiseAnswer, IsOptimumAnswer, IsSafeAnswer, IsSlacksAnswer};
-ghost use Rattle.mintcx_answers.specs.Answers.{IsTextOfSlacks, cycle_status, least_cycle};
+ghost use Rattle.mintcx_answers.specs.Answers.{IsTextOfSlacks, IsToldReport, cycle_status, least_cycle};
 
 use crate::reports::report_answer;
 use crate::schedules::timed_answer;
@@ -215,6 +215,26 @@ fn optimise_answer(
     }
 }
 
+/// The report of the optimum, or the rows of its chain.
+fn told_report(
+    alloc: Global,
+    work: &Work<'_, '_>,
+    system: &System,
+    view: &View,
+) -> Result<Answer, OutOfMemory>
+    ensures { IfOk result (λ answer. IsToldReport system.now work.now.aspect view.now answer.status answer.text) }
+{
+    match work.aspect {
+        Aspect::Rows => chain_answer(alloc, system),
+        Aspect::Whole | Aspect::Cycle(_) | Aspect::Histogram | Aspect::Schedule(_) => report_answer(
+            alloc,
+            work.netlist,
+            system,
+            view,
+        ),
+    }
+}
+
 /// The cycle time of a schedule, in femtoseconds.
 fn cycle_of(schedule: &Schedule) -> Fraction
     requires { IsInRange schedule.now }
@@ -346,7 +366,7 @@ pub(crate) fn job_text(
         Job::Check => check_answer(alloc, system, file, view),
         Job::Optimise => Ok(optimise_answer(alloc, work.aspect, system, view)?),
         Job::Verify => verify_answer(alloc, limits, work, system, file, view),
-        Job::Report => Ok(report_answer(alloc, work.netlist, system, view)?),
+        Job::Report => Ok(told_report(alloc, work, system, view)?),
         Job::Safe => Ok(safe_answer(alloc, system, view)?),
         Job::Slack => slack_answer(alloc, limits, work.aspect, system, view),
     }

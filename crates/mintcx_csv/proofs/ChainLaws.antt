@@ -8,7 +8,8 @@ use Rattle.mintc_timing.specs.Design.{Design}
 use Rattle.mintcx_chain.specs.declared.rows.Row.{Row}
 use Rattle.mintcx_chain.specs.declared.stages.Stage.{Stage}
 use Rattle.mintcx_chain.specs.Rows.{last_row, row_at, rows_of}
-use Rattle.mintcx_csv.specs.Chains.{chain_record_at, chain_records, shown_over}
+use Rattle.mintcx_csv.specs.Chains.{chain_record_at, chain_records}
+use Rattle.mintcx_csv.specs.Tables.{shown_over}
 use Rattle.mintcx_csv.proofs.TableLaws.{AllHaveSeveral, HasSeveral, made_of}
 
 -- a chain has one row more than it has stages
@@ -23,7 +24,7 @@ some_shown : (b : Bool) (p q r t u v w : List ℕ) → HasSeveral (take (if b th
 some_shown true p q r t u v w = tt
 some_shown false p q r t u v w = tt
 
-pub several_shown : (den : ℤ) (p q r t u v w : List ℕ) → HasSeveral (shown_over den (p ∷ q ∷ r ∷ t ∷ u ∷ v ∷ w ∷ []))
+pub several_shown : (den : ℤ) (p q r t u v w : List ℕ) → HasSeveral (shown_over den 6 (p ∷ q ∷ r ∷ t ∷ u ∷ v ∷ w ∷ []))
 several_shown den p q r t u v w = some_shown (int_lt (pos 1) den) p q r t u v w
 
 pub records_several : (design : Design) (s : Schedule) (d : List ℤ) (stages : List Stage) → AllHaveSeveral (chain_records design s d stages)

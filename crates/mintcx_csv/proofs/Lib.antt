@@ -4,3 +4,4 @@ mod PlaceLaws
 mod ReadingLaws
 mod SpanLaws
 mod TableLaws
+mod ViolationLaws

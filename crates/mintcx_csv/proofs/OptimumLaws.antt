@@ -1,5 +1,5 @@
 -- What a valid certificate in its ranges keeps.
-use Rattle.std.proofs.Common.{◌≡◌, ℤ, List}
+use Rattle.std.proofs.Common.{ℤ, List}
 use Rattle.std.specs.Prelude.{All}
 use Rattle.mintc_timing.specs.declared.clocking.Schedule.{Schedule}
 use Rattle.mintc_timing.specs.Design.{Timing}

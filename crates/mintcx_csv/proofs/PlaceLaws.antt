@@ -7,7 +7,7 @@ use Rattle.std.proofs.lemmas.List.Sorted.{All-permutation}
 use Rattle.mintcx_slacks.specs.Slacks.{AreBySlack, place_of}
 
 -- what holds of each number of a range
-All-range : (Q : ℕ → Type 0) (a n : ℕ) → ((k : ℕ) → a ≤ k → k < a + n → Q k) → All Q (range_with_len a n)
+pub All-range : (Q : ℕ → Type 0) (a n : ℕ) → ((k : ℕ) → a ≤ k → k < a + n → Q k) → All Q (range_with_len a n)
 All-range Q a zero each = All-nil Q
 All-range Q a (suc n) each =
     All-cons Q a (range_with_len (a + 1) n) (each a (omega arith) (omega arith)) (All-range Q (a + 1) n (λ k low high. each k (omega arith) (omega arith)))

@@ -1,5 +1,5 @@
 -- The tables of chains.
-use Rattle.std.specs.Prelude.{◌≡◌, ℕ, ℤ, pos, ◌*ℤ◌, if◌then◌else◌, int_lt, List, [], ◌∷◌, length, take, map, codes}
+use Rattle.std.specs.Prelude.{ℕ, ℤ, ◌*ℤ◌, List, [], ◌∷◌, length, map, codes}
 use Rattle.std.specs.Prelude.{decimal}
 use Rattle.std.specs.List.{range_with_len}
 use Rattle.mintc_text.specs.Lines.{numeral_of}
@@ -16,7 +16,7 @@ use Rattle.mintcx_chain.specs.Rows.{rows_of}
 use Rattle.mintcx_chain.specs.Turning.{stage_at}
 use Rattle.mintcx_optima.specs.Optimum.{AreStages}
 use Rattle.mintcx_optima.specs.Tables.{row_of}
-use Rattle.mintcx_csv.specs.Tables.{IsTable}
+use Rattle.mintcx_csv.specs.Tables.{IsTable, shown_over}
 
 -- the head line of a chain that decides a least cycle
 abbrev pub chain_fields : List (List ℕ)
@@ -30,19 +30,15 @@ chain_record design den row stage =
     decimal row.cycle ∷ from_name design stage ∷ numeral_of row.at ∷ numeral_of row.borrows ∷
     numeral_of (stage.delay *ℤ den) ∷ node_name design stage.to ∷ numeral_of den ∷ []
 
--- Where den is 1, the last column is left out.
-abbrev pub shown_over : ℤ → List (List ℕ) → List (List ℕ)
-shown_over den fields = take (if int_lt (pos 1) den then 7 else 6) fields
-
 -- the row of stage n
 abbrev pub chain_record_at : Design → ℤ → List Row → List Stage → ℕ → List (List ℕ)
 chain_record_at design den rows stages n =
-    shown_over den (chain_record design den (row_of rows n) (stage_at stages n))
+    shown_over den 6 (chain_record design den (row_of rows n) (stage_at stages n))
 
 -- the rows of the stages of a chain by a schedule with its departures
 abbrev pub chain_records : Design → Schedule → List ℤ → List Stage → List (List (List ℕ))
 chain_records design s d stages =
-    shown_over s.den chain_fields ∷
+    shown_over s.den 6 chain_fields ∷
     map (chain_record_at design s.den (rows_of design s d stages) stages) (range_with_len 0 (length stages))
 
 -- the head line of a chain that forbids

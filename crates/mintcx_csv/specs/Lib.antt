@@ -2,5 +2,6 @@
 pub mod Tables
 pub mod Slacks
 pub mod Chains
+pub mod Violations
 -- What those within say:
 pub mod Records

@@ -7,11 +7,11 @@ ghost use Rattle.mintcx_chain.specs.Names.{IsShort, IsStage, IsStageDelay};
 ghost use Rattle.mintcx_chain.specs.Rows.{IsClocked};
 ghost use Rattle.mintcx_optima.specs.Least.{IsRing};
 ghost use Rattle.mintcx_csv.specs.Chains.{chain_fields, chain_record, chain_record_at, chain_records, hop_fields};
-ghost use Rattle.mintcx_csv.specs.Chains.{hop_record, hop_records, shown_over};
+ghost use Rattle.mintcx_csv.specs.Chains.{hop_record, hop_records};
 ghost use Rattle.mintcx_csv.specs.Records.{IsBetween, text_so_far};
-ghost use Rattle.mintcx_csv.specs.Tables.{IsTable, by_rfc, text_of as table_text};
+ghost use Rattle.mintcx_csv.specs.Tables.{IsTable, by_rfc, shown_over, text_of as table_text};
 
-use crate::records::{Records, no_records, numeral, put_record, text_of};
+use crate::records::{Records, no_records, numeral, put_over, put_record, text_of};
 use itoa::Buffer;
 use mintc_text::{Bytes, OutOfMemory};
 use mintc_timing::{Flat, Schedule};
@@ -28,30 +28,22 @@ fn span_of(span: i64, den: i64) -> i64
     span * den
 }
 
-/// Writes a record of seven fields, without the last one where the denominator that it has is 1.
-fn put_over(records: &mut Records, fields: &[&[u8]], den: i64) -> Result<(), OutOfMemory>
-    requires between { IsBetween records.old }
-    requires fields { 7 ≤ length fields.now }
-    ensures between { OnOk result (IsBetween records.new) }
-    ensures text { OnOk result (text_so_far records.new
-        ≡ text_so_far records.old ++ row_text by_rfc (shown_over den (map (λ field. field.now) fields.now))) }
-{
-    let count = if den > 1 { 7 } else { 6 };
-    put_record(records, &fields[..count])
-}
+/// How many columns a chain that decides has before that of the denominator.
+const CHAIN_COLUMNS: usize = 6;
 
 /// Writes the head line of a chain that decides.
-fn put_chain_head(records: &mut Records, den: i64) -> Result<(), OutOfMemory>
+pub(crate) fn put_chain_head(records: &mut Records, den: i64) -> Result<(), OutOfMemory>
     requires { IsBetween records.old }
     ensures between { OnOk result (IsBetween records.new) }
     ensures text { OnOk result
-        (text_so_far records.new ≡ text_so_far records.old ++ row_text by_rfc (shown_over den chain_fields)) }
+        (text_so_far records.new ≡ text_so_far records.old ++ row_text by_rfc (shown_over den 6 chain_fields)) }
 {
     put_over(
         records,
         &[
             b"cycle", b"from", b"at", b"borrows", b"delay", b"to", b"den",
         ],
+        CHAIN_COLUMNS,
         den,
     )
 }
@@ -71,7 +63,7 @@ fn put_stage(
     requires short { IsShort stage.now }
     ensures between { OnOk result (IsBetween records.new) }
     ensures text { OnOk result (text_so_far records.new
-        ≡ text_so_far records.old ++ row_text by_rfc (shown_over den (chain_record flat.now den row.now stage.now))) }
+        ≡ text_so_far records.old ++ row_text by_rfc (shown_over den 6 (chain_record flat.now den row.now stage.now))) }
 {
     let from = stage_from(alloc, flat, stage)?;
     let to = stage_to(alloc, flat, stage)?;
@@ -85,6 +77,7 @@ fn put_stage(
     put_over(
         records,
         &[cycle, from.bytes(), at, borrows, delay, to.bytes(), over],
+        CHAIN_COLUMNS,
         den,
     )
 }

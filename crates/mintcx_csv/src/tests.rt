@@ -2,8 +2,9 @@
 ghost use Rattle.std.specs.Prelude.{OnOk};
 ghost use Rattle.mintcx_csv.specs.Records.{IsBetween};
 
+use crate::chains::put_chain_head;
 use crate::order::{Place, by_slack};
-use crate::records::{Records, no_records, text_of};
+use crate::records::{Records, no_records, put_over, text_of};
 use crate::slacks::{put_head, put_row};
 use mintc_text::{Bytes, OutOfMemory};
 use std::alloc::Global;
@@ -82,6 +83,38 @@ const TABLES: &[(&[Pair], &str)] = &[
     (&[], "from,to,delay,slack\r\n"),
 ];
 
+/// The fields of a row of a chain.
+type Fields = [&'static str; 7];
+
+/// The chain of the ring, by elements.
+const RING_CHAIN: &[Fields] = &[
+    ["1", "_24_", "0", "0", "487000", "_20_", "1"],
+    ["1", "_20_", "487000", "102500", "900000", "_25_", "1"],
+    ["2", "_25_", "1387000", "79500", "440000", "_21_", "1"],
+    ["2", "_21_", "1827000", "135000", "788000", "_24_", "1"],
+];
+
+const RING_CHAIN_TEXT: &str = "cycle,from,at,borrows,delay,to\r\n\
+1,_24_,0,0,487000,_20_\r\n\
+1,_20_,487000,102500,900000,_25_\r\n\
+2,_25_,1387000,79500,440000,_21_\r\n\
+2,_21_,1827000,135000,788000,_24_\r\n";
+
+/// A chain of which two cycles take an odd number of femtoseconds.
+const HALF_CHAIN: &[Fields] = &[
+    ["1", "p1 starts", "-1", "0", "6", "a,b", "2"],
+    ["3", "a,b", "5", "0", "-2", "p1 starts", "2"],
+];
+
+const HALF_CHAIN_TEXT: &str = "cycle,from,at,borrows,delay,to,den\r\n\
+1,p1 starts,-1,0,6,\"a,b\",2\r\n\
+3,\"a,b\",5,0,-2,p1 starts,2\r\n";
+
+const CHAINS: &[(i64, &[Fields], &str)] = &[
+    (1, RING_CHAIN, RING_CHAIN_TEXT),
+    (2, HALF_CHAIN, HALF_CHAIN_TEXT),
+];
+
 fn put_place(records: &mut Records, pairs: &[Pair], place: &Place) -> Result<(), OutOfMemory>
     requires { IsBetween records.old }
     ensures { OnOk result (IsBetween records.new) }
@@ -110,6 +143,41 @@ fn table_of(alloc: Global, pairs: &[Pair]) -> Result<Bytes, OutOfMemory> {
 fn tables_are_as_worked(rt: HostRuntime) -> Result<(), OutOfMemory> {
     for (pairs, text) in TABLES {
         let table = table_of(rt.alloc(), pairs)?;
+        assert!(rt; table.items() == text.as_bytes(), "{text}");
+    }
+    Ok(())
+}
+
+fn put_fields(records: &mut Records, fields: &Fields, den: i64) -> Result<(), OutOfMemory>
+    requires { IsBetween records.old }
+    ensures { OnOk result (IsBetween records.new) }
+{
+    let [cycle, from, at, borrows, delay, to, over] = fields;
+    let names = [
+        cycle.as_bytes(),
+        from.as_bytes(),
+        at.as_bytes(),
+        borrows.as_bytes(),
+        delay.as_bytes(),
+        to.as_bytes(),
+        over.as_bytes(),
+    ];
+    put_over(records, &names, 6, den)
+}
+
+fn chain_of(alloc: Global, den: i64, rows: &[Fields]) -> Result<Bytes, OutOfMemory> {
+    let mut records = no_records(alloc);
+    put_chain_head(&mut records, den)?;
+    for fields in rows {
+        put_fields(&mut records, fields, den)?;
+    }
+    text_of(records)
+}
+
+#[test]
+fn chains_are_as_worked(rt: HostRuntime) -> Result<(), OutOfMemory> {
+    for (den, rows, text) in CHAINS {
+        let table = chain_of(rt.alloc(), *den, rows)?;
         assert!(rt; table.items() == text.as_bytes(), "{text}");
     }
     Ok(())

@@ -33,6 +33,7 @@ fn put_syntax(
     match role {
         Role::Netlist if is_missing => put_counted(out, b"statement ", entry, b" is missing"),
         Role::Netlist => put_counted(out, b"it is statement ", entry, NETLIST),
+        Role::Delays if entry == 0 => out.put(b"it doesn't begin as delays do"),
         Role::Delays => put_counted(out, b"it is entry ", entry, DELAYS),
         Role::Cells if entry == 0 => out.put(b"it doesn't begin as a library does"),
         Role::Cells => put_counted(out, b"it is statement ", entry, b" directly in the library"),

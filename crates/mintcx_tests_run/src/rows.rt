@@ -396,8 +396,12 @@ const TABLE: Rows = Rows {
             "0|cycle,from,at,borrows,delay,to\r\n1,a,0,0,30,b\r\n1,b,30,20,70,a\r\n||",
         ),
         (
+            "mintcx report --format csv",
+            "0|cycle,from,at,borrows,delay,to\r\n1,a,0,0,30,b\r\n1,b,30,20,70,a\r\n||",
+        ),
+        (
             "mintcx slack --histogram --format csv",
-            "3||error: '--format csv' isn't there yet for this; 'optimise' and 'slack' have it\n|",
+            "3||error: '--format csv' isn't there yet for this; 'optimise', 'report' and 'slack' have it\n|",
         ),
         ("mintcx verify two.cert", VALID),
         ("mintcx schedule", TOLD_SCHEDULE),

@@ -146,6 +146,7 @@ plain_gap false told = None
 -- the answer to a task has rows as CSV
 abbrev pub has_rows : Task → Bool
 has_rows (task.Optimise None None) = true
+has_rows task.Report = true
 has_rows (task.Slack false) = true
 has_rows what = false
 

@@ -22,7 +22,7 @@ pub enum Aspect {
     Cycle(u32),
     /// Of `slack`: the pairs counted by their slack.
     Histogram,
-    /// The rows alone, as CSV: of `optimise` the chain that decides, of `slack` the pairs.
+    /// The rows alone, as CSV: of `optimise` and `report` the chain that decides, of `slack` the pairs.
     Rows,
     /// The schedule, as `check` takes it: of `optimise` that of the least cycle time, or of another one in
     /// femtoseconds; of `verify` that of the certificate.
@@ -371,6 +371,7 @@ fn has_rows(task: &Task) -> bool
 {
     match task {
         Task::Optimise { certificate, cycle } => certificate.is_none() && cycle.is_none(),
+        Task::Report => true,
         Task::Slack { histogram } => !*histogram,
         _ => false,
     }

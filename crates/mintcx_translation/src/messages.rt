@@ -11,7 +11,8 @@ impl Gap {
             Gap::Sdc => "'sdc' isn't there yet",
             Gap::Draw => "'draw' isn't there yet",
             Gap::Json => "'--format json' isn't there yet; text and plain are",
-            Gap::Csv => "'--format csv' isn't there yet for this; 'optimise' and 'slack' have it",
+            Gap::Csv =>
+                "'--format csv' isn't there yet for this; 'optimise', 'report' and 'slack' have it",
             Gap::Clamp => "'--clamp-negative' isn't there yet",
             Gap::Cycle => "'--cycle' has no plain form; '--format text' has one",
             Gap::Certificate => {

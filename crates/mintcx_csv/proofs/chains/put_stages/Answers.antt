@@ -1,4 +1,4 @@
-use Rattle.std.proofs.Common.{◌≡◌, ◌++◌, ◌+◌, ◌∷◌, [], ℕ, List, map, arith, w64, to_z, of_z}
+use Rattle.std.proofs.Common.{◌≡◌, ◌++◌, ℕ, List, map, arith, w64, to_z, of_z}
 use Rattle.std.specs.List.{range_with_len}
 use Rattle.std.proofs.lemmas.Grind.{common_steps}
 use Rattle.std.proofs.lemmas.List.FromFn.{map-range_with_len_more}
