@@ -10,7 +10,7 @@ impl Gap {
         match self {
             Gap::Sdc => "'sdc' isn't there yet",
             Gap::Draw => "'draw' isn't there yet",
-            Gap::Json => "'--format json' isn't there yet; text and plain are",
+            Gap::Json => "'--format json' isn't there yet; text, plain and csv are",
             Gap::Csv =>
                 "'--format csv' isn't there yet for this; 'optimise', 'report' and 'slack' have it",
             Gap::Clamp => "'--clamp-negative' isn't there yet",
