@@ -50,7 +50,8 @@ fn design_text(
 }
 
 /// The answer to a question in a text for people, of the first bytes of the files of its command, shown in this view,
-/// or their first refusal, which is mintc's, and of a corner that of its own files. The memory of the files is given back once their design is read.
+/// or their first refusal, which is mintc's, and of a corner that of its own files. The memory of the files is given
+/// back once their design is read.
 pub fn answer_text(
     alloc: Global,
     limits: &Limits,

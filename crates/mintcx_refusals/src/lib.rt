@@ -3,8 +3,8 @@
 //! mintc says `refused 8 12`. Here that becomes what is wrong, the file, the line and the column, the line itself with
 //! marks below it, why it is refused and what helps, and at the end mintc's own line. `file_of` tells which file of the
 //! command a refusal speaks of, so that the caller reads that file alone once more; `refusal_message` and
-//! `short_message` take its bytes. For a corner these are the file of `teller`, and `corner_message`. A place is shown where
-//! it is known: statements of the netlist, and lines of tables, schedules and certificates.
+//! `short_message` take its bytes. For a corner these are the file of `teller`, and `corner_message`. A place is shown
+//! where it is known: statements of the netlist, and lines of tables, schedules and certificates.
 #![tactic(auto)]
 
 mod advice;
