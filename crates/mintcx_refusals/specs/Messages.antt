@@ -71,23 +71,23 @@ abbrev pub place_text : List ℕ → Option Excerpt → List ℕ → List ℕ
 place_text name None label = file_text name
 place_text name (Some e) label = excerpt_text name e label
 
--- the excerpt is that of a place, and the spot is where a place begins; there is none where there is no place
+-- the excerpt shows what is marked of a place, and the spot is where that begins; there is none where there is no place
 abbrev pub IsExcerptAt : List ℕ → Option Place → Option Excerpt → Type 0
 IsExcerptAt file None excerpt = excerpt ≡ None
-IsExcerptAt file (Some place) excerpt = (e : Excerpt) × (excerpt ≡ Some e) × IsExcerpt file place.range e
+IsExcerptAt file (Some place) excerpt = (e : Excerpt) × (excerpt ≡ Some e) × IsExcerpt file place.mark e
 
 abbrev pub IsSpotAt : List ℕ → Option Place → Option Spot → Type 0
 IsSpotAt file None spot = spot ≡ None
-IsSpotAt file (Some place) spot = (s : Spot) × (spot ≡ Some s) × IsSpot file place.range.from s
+IsSpotAt file (Some place) spot = (s : Spot) × (spot ≡ Some s) × IsSpot file place.mark.from s
 
--- the excerpt is that of the place of which a refusal speaks; there is none where no place is known
+-- the excerpt shows what is marked of the place of which a refusal speaks; there is none where no place is known
 abbrev pub IsExcerptOf : List ℕ → Refusal → Option Excerpt → Type 0
 IsExcerptOf file refused excerpt =
     MatchOption excerpt (HasNoPlace file refused)
-    (λ e. (place : Place) × IsPlace file refused place × IsExcerpt file place.range e)
+    (λ e. (place : Place) × IsPlace file refused place × IsExcerpt file place.mark e)
 
--- The message of a refusal: what it is, behind its number; where, in the file that it speaks of; some advice; and
--- mintc's own line.
+-- The message of a refusal: what it is, behind its number; where, in the file that it speaks of; some advice, behind
+-- other places or none; and mintc's own line.
 pub record IsMessage (roles : List Role) (names : List (List ℕ)) (file : List ℕ) (refused : Refusal)
     (text : List ℕ) : Type 0 where
   pub what : List ℕ
@@ -99,7 +99,8 @@ pub record IsMessage (roles : List Role) (names : List (List ℕ)) (file : List 
   pub is_excerpt : IsExcerptOf file refused excerpt
   pub whole : text ≡ (((head refused ++ what ++ 10 ∷ []) ++ place_text name excerpt label) ++ advice) ++ note refused
 
--- The message that a corner is refused: what its own files are refused for, and where; some advice; and both lines.
+-- The message that a corner is refused: what its own files are refused for, and where; some advice, behind other
+-- places or none; and both lines.
 pub record IsCornerMessage (roles : List Role) (names : List (List ℕ)) (file : List ℕ) (corner own : Refusal)
     (text : List ℕ) : Type 0 where
   pub what : List ℕ
@@ -124,11 +125,11 @@ abbrev pub short_place : List ℕ → Option Spot → List ℕ
 short_place name None = short_file name
 short_place name (Some spot) = spot_text name spot ++ codes ": "
 
--- the spot is where the place begins of which a refusal speaks
+-- the spot is where that begins which is marked of the place of which a refusal speaks
 abbrev pub IsSpotOf : List ℕ → Refusal → Option Spot → Type 0
 IsSpotOf file refused spot =
     MatchOption spot (HasNoPlace file refused)
-    (λ s. (place : Place) × IsPlace file refused place × IsSpot file place.range.from s)
+    (λ s. (place : Place) × IsPlace file refused place × IsSpot file place.mark.from s)
 
 -- The message of a refusal in one line: where, and what it is, behind its number.
 pub record IsShortMessage (roles : List Role) (names : List (List ℕ)) (file : List ℕ) (refused : Refusal)

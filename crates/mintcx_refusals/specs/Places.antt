@@ -1,5 +1,5 @@
 -- The place in its file that a refusal speaks of.
-use Rattle.std.specs.Prelude.{◌≡◌, ℕ, ◌-◌, ◌⊎◌, true, false, List}
+use Rattle.std.specs.Prelude.{◌≡◌, ◌≤◌, ℕ, ◌-◌, ◌⊎◌, true, false, List}
 use Rattle.mintc_text.specs.declared.refusals.Role.TheVariants as role
 use Rattle.mintc_text.specs.declared.refusals.Refusal.{Refusal}
 use Rattle.mintc_text.specs.declared.refusals.Refusal.TheVariants as refusal
@@ -50,9 +50,14 @@ IsPlaceAt file pointer place =
     ((place.is_last ≡ false) × IsAt file pointer place.range)
     ⊎ ((place.is_last ≡ true) × HasNone file pointer × IsAt file (before pointer) place.range)
 
--- the place that a refusal speaks of, in its file
+-- what is marked of a place lies inside of it
+abbrev pub HasMark : Place → Type 0
+HasMark place =
+    (place.range.from ≤ place.mark.from) × (place.mark.from ≤ place.mark.to) × (place.mark.to ≤ place.range.to)
+
+-- the place that a refusal speaks of, in its file, with what is marked of it
 abbrev pub IsPlace : List ℕ → Refusal → Place → Type 0
-IsPlace file refused place = IsPlaceAt file (pointer_of refused) place
+IsPlace file refused place = IsPlaceAt file (pointer_of refused) place × HasMark place
 
 -- a refusal speaks of no place of its file that is known
 abbrev pub HasNoPlace : List ℕ → Refusal → Type 0

@@ -3,22 +3,12 @@
 use crate::cases::{Case, bad_ending, bytes_at, first_word, is_last};
 use crate::entries::entry_of;
 use crate::files::named;
+use crate::others::put_others;
+use crate::places::fault_of;
 use crate::writing::put_times;
 use mintc_text::{Bytes, Lines, OutOfMemory, Refusal, Role};
+use mintcx_finders::{Class, Fault};
 use std::alloc::Global;
-
-/// What stands behind the marks.
-pub(crate) fn label_of(case: &Case<'_>) -> &'static [u8] {
-    match case.refusal {
-        Refusal::Syntax {
-            role: Role::Netlist,
-            ..
-        } if is_last(case.place) => b" the last statement; `endmodule` has to follow",
-        Refusal::Syntax { .. } if is_last(case.place) => b" the last line; `end` has to follow",
-        Refusal::TwoDrivers { .. } => b" driven again",
-        _ => b"",
-    }
-}
 
 /// Whether a word begins what says how a circuit behaves.
 fn is_behaviour(word: &[u8]) -> bool {
@@ -78,6 +68,42 @@ fn table_form(file: &[u8], word: &[u8]) -> &'static [u8] {
     }
 }
 
+/// Why a name stands for one thing alone.
+fn class_why(case: &Case<'_>) -> &'static [u8] {
+    match fault_of(case.place) {
+        Some(
+            Fault::Again {
+                class: Class::Module,
+                ..
+            },
+        ) => b"each module has its own name",
+        Some(
+            Fault::Again {
+                class: Class::Port,
+                ..
+            },
+        ) => b"a port has one declaration in its module",
+        Some(
+            Fault::Again {
+                class: Class::Net,
+                ..
+            },
+        ) => b"a net has one declaration in its module",
+        Some(
+            Fault::Again {
+                class: Class::Instance,
+                ..
+            },
+        ) => b"in its module each instance has its own name",
+        _ => b"in its module a net and a port have one declaration, and each instance its own name",
+    }
+}
+
+/// Whether a least number is found to be above its greatest.
+fn is_above(case: &Case<'_>) -> bool {
+    matches!(fault_of(case.place), Some(Fault::Above { .. }))
+}
+
 /// Why a line is out of form.
 fn line_why(case: &Case<'_>, role: Role) -> &'static [u8] {
     let ending = bad_ending(case.file, case.place);
@@ -102,6 +128,7 @@ fn line_help(case: &Case<'_>, role: Role) -> &'static [u8] {
         Role::Certificate =>
             b"write the certificate anew, with `mintcx optimise --certificate FILE`",
         _ if is_last(case.place) => b"complete the file",
+        _ if is_above(case) => b"make the least number at most the greatest",
         _ if !bad_ending(case.file, case.place).is_empty() => {
             b"save the file with a line feed behind each line, and no other mark"
         }
@@ -140,9 +167,7 @@ fn syntax_help(case: &Case<'_>, role: Role) -> &'static [u8] {
 fn why_of(case: &Case<'_>) -> &'static [u8] {
     match case.refusal {
         Refusal::Syntax { role, .. } => syntax_why(case, *role),
-        Refusal::NameTwice { .. } => {
-            b"in its module a net and a port have one declaration, and each instance its own name"
-        }
+        Refusal::NameTwice { .. } => class_why(case),
         Refusal::Recursive { .. } => b"modules that hold each other have no end",
         Refusal::TwoDrivers { .. } => {
             b"a bit has one driver: an input port, an assign or one output"
@@ -286,7 +311,7 @@ fn whole_help(alloc: Global, case: &Case<'_>) -> Result<Bytes, OutOfMemory> {
     Ok(Bytes::new(lines.into_bytes()))
 }
 
-/// The lines that say why an input is refused and what helps, and the blanks before the line behind them.
+/// Other places, the lines that say why an input is refused and what helps, and the blanks before the line behind them.
 pub(crate) fn advice_of(
     alloc: Global,
     case: &Case<'_>,
@@ -295,6 +320,7 @@ pub(crate) fn advice_of(
     let entry = entry_of(alloc, case)?;
     let help = whole_help(alloc, case)?;
     let mut lines = Lines::new(alloc);
+    put_others(alloc, &mut lines, case, margin)?;
     put_advice(&mut lines, margin, b" = why: ", entry.items())?;
     put_advice(&mut lines, margin, b" = why: ", why_of(case))?;
     put_advice(&mut lines, margin, b" = help: ", help.items())?;

@@ -12,7 +12,9 @@ mod cases;
 mod counts;
 mod entries;
 mod files;
+mod labels;
 mod messages;
+mod others;
 mod places;
 #[cfg(test)]
 mod tests;

@@ -2,9 +2,10 @@
 ghost use Rattle.std.specs.Prelude.{◌≤◌, IfOk, IfSome, length};
 ghost use Rattle.mintcx_refusals.specs.Messages.{IsCornerMessage, IsExcerptAt, IsMessage, IsShortMessage, IsSpotAt};
 
-use crate::advice::{advice_of, label_of};
+use crate::advice::advice_of;
 use crate::cases::Case;
 use crate::files::{Inputs, name_of, teller};
+use crate::labels::label_of;
 use crate::places::{Place, place_of};
 use crate::whats::what_of;
 use crate::writing::{digits_of, put_corner_note, put_head, put_note, put_place, put_short_place};
@@ -18,22 +19,22 @@ fn excerpt_at(
     file: &[u8],
     place: Option<Place>,
 ) -> Result<Option<Excerpt>, OutOfMemory>
-    requires { IfSome place (λ p. p.range.from ≤ length file.now) }
+    requires { IfSome place (λ p. p.mark.from ≤ length file.now) }
     ensures { IfOk result (IsExcerptAt file.now place) }
 {
     match place {
-        Some(place) => Ok(Some(excerpt_of(alloc, file, &place.range)?)),
+        Some(place) => Ok(Some(excerpt_of(alloc, file, &place.mark)?)),
         None => Ok(None),
     }
 }
 
 /// Where a place begins, if there is one.
 fn spot_at(file: &[u8], place: Option<Place>) -> Option<Spot>
-    requires { IfSome place (λ p. p.range.from ≤ length file.now) }
+    requires { IfSome place (λ p. p.mark.from ≤ length file.now) }
     ensures { IsSpotAt file.now place result }
 {
     match place {
-        Some(place) => Some(spot_of(file, place.range.from)),
+        Some(place) => Some(spot_of(file, place.mark.from)),
         None => None,
     }
 }
@@ -50,7 +51,7 @@ fn margin_of(alloc: Global, excerpt: &Option<Excerpt>) -> Result<usize, OutOfMem
 }
 
 /// The message of a refusal, over several lines: its number and what it is; the file, the line and the column, and the
-/// line itself with marks below it, as far as the place is known; why it is refused, and what helps; and mintc's own
+/// line itself with marks below the word at fault or all of it, as far as the place is known; why it is refused, and what helps; and mintc's own
 /// line. `file` is what `file_of` says, read once more, or empty where that can't be had.
 pub fn refusal_message(
     alloc: Global,
@@ -60,7 +61,7 @@ pub fn refusal_message(
 ) -> Result<Bytes, OutOfMemory>
     ensures { IfOk result (IsMessage inputs.now.roles.now inputs.now.names.now file.now refusal.now) }
 {
-    let place = place_of(file, refusal);
+    let place = place_of(alloc, file, refusal)?;
     let name = name_of(inputs, refusal);
     let excerpt = excerpt_at(alloc, file, place)?;
     let case = Case {
@@ -71,10 +72,11 @@ pub fn refusal_message(
         place,
     };
     let what = what_of(alloc, &case)?;
+    let label = label_of(alloc, &case)?;
     let advice = advice_of(alloc, &case, margin_of(alloc, &excerpt)?)?;
     let mut lines = Lines::new(alloc);
     put_head(&mut lines, refusal, what.items())?;
-    put_place(alloc, &mut lines, name, &excerpt, label_of(&case))?;
+    put_place(alloc, &mut lines, name, &excerpt, label.items())?;
     lines.put(advice.items())?;
     put_note(alloc, &mut lines, refusal)?;
     Ok(Bytes::new(lines.into_bytes()))
@@ -93,7 +95,7 @@ pub fn corner_message(
         (IsCornerMessage inputs.now.roles.now inputs.now.names.now file.now (Refusal.Corner corner) own.now) }
 {
     let outer = Refusal::Corner { file: corner };
-    let place = place_of(file, own);
+    let place = place_of(alloc, file, own)?;
     let name = name_of(inputs, teller(&outer, own));
     let excerpt = excerpt_at(alloc, file, place)?;
     let inner = Case {
@@ -109,11 +111,12 @@ pub fn corner_message(
     };
     let what = what_of(alloc, &case)?;
     let own_what = what_of(alloc, &inner)?;
+    let label = label_of(alloc, &inner)?;
     let advice = advice_of(alloc, &case, margin_of(alloc, &excerpt)?)?;
     let mut lines = Lines::new(alloc);
     put_head(&mut lines, &outer, what.items())?;
     put_head(&mut lines, own, own_what.items())?;
-    put_place(alloc, &mut lines, name, &excerpt, label_of(&inner))?;
+    put_place(alloc, &mut lines, name, &excerpt, label.items())?;
     lines.put(advice.items())?;
     put_corner_note(alloc, &mut lines, &outer, own)?;
     Ok(Bytes::new(lines.into_bytes()))
@@ -129,7 +132,7 @@ pub fn short_message(
 ) -> Result<Bytes, OutOfMemory>
     ensures { IfOk result (IsShortMessage inputs.now.roles.now inputs.now.names.now file.now refusal.now) }
 {
-    let place = place_of(file, refusal);
+    let place = place_of(alloc, file, refusal)?;
     let case = Case {
         refusal,
         own: refusal,

@@ -19,7 +19,7 @@ const PADS: &str = "error[1]: this statement isn't structural Verilog
 const BEHAVIOUR: &str = "error[1]: this statement isn't structural Verilog
  --> top.v:4:3
 4 |   always @(a) r <= 1;
-  |   ^^^^^^^^^^^^^^^^^^^
+  |   ^^^^^^^^^^^
   = why: `always` is behaviour, and a netlist has none
   = help: map it to cells first (Yosys: synth; dfflibmap; techmap; abc)
   = note: `refused 1 netlist 4`; `mintcx explain 1` says more
@@ -28,7 +28,7 @@ const BEHAVIOUR: &str = "error[1]: this statement isn't structural Verilog
 const NO_MODULE: &str = "error[4]: there is no cell or module `mid`
  --> top.v:5:3
 5 |   mid u ( .x(a) );
-  |   ^^^^^^^^^^^^^^^^
+  |   ^^^ in module `m`
   = help: describe it in cells.toml, give the library with --lib, or add its module
   = note: `refused 4 5`; `mintcx explain 4` says more
 ";
@@ -208,6 +208,71 @@ fn statements_are_shown(rt: HostRuntime) -> Result<(), OutOfMemory> {
     Ok(())
 }
 
+const TABLE: &str = "table 1
+phases 2
+phase phi1
+phase phi2
+elements 2
+element a 1 10 - 10 10 0
+element b 2 10 - 20 10 0
+";
+
+const TURNED: &str = "error[1]: this line of the table is out of form
+ --> top.table:7:18
+7 | element b 2 10 - 20 10 0
+  |                  ^^^^^ 20 is above 10
+  = why: the form is `element NAME PHASE SETUP HOLD DQMIN DQMAX WIDTH`
+  = help: make the least number at most the greatest
+  = note: `refused 1 table 7`; `mintcx explain 1` says more
+";
+
+const MODULES: &str = "module half(c, i, o);
+  input c;
+  input i;
+  output o;
+  wire q;
+  wire q;
+  slice s ( .a(q), .t(1'h0), .z(o) );
+endmodule
+module slice(a, t, z);
+  half h ( .c(a), .i(a), .o() );
+endmodule
+";
+
+const TWICE: &str = "error[3]: `q` is declared twice
+ --> top.v:6:8
+6 |   wire q;
+  |        ^ declared again
+ ::: top.v:5:8
+5 |   wire q;
+  |        - declared here first
+  = why: a net has one declaration in its module
+  = help: take one of them out, or rename it
+  = note: `refused 3 6`; `mintcx explain 3` says more
+";
+
+const RING: &str = "error[5]: module `slice` has itself inside
+  --> top.v:10:3
+10 |   half h ( .c(a), .i(a), .o() );
+   |   ^^^^ slice -> half -> slice
+   = why: modules that hold each other have no end
+   = help: take the instance out
+   = note: `refused 5 10`; `mintcx explain 5` says more
+";
+
+#[test]
+fn words_at_fault_are_shown(rt: HostRuntime) -> Result<(), OutOfMemory> {
+    let alloc = rt.alloc();
+    let turned = Refusal::Syntax {
+        role: Role::Table,
+        entry: 7,
+    };
+    assert!(rt; is_told_beside(alloc, b"own.table", &turned, TABLE, TURNED)?);
+    assert!(rt; is_told(alloc, &Refusal::NameTwice { entry: 6 }, MODULES, TWICE)?);
+    assert!(rt; is_told(alloc, &Refusal::Recursive { entry: 10 }, MODULES, RING)?);
+    Ok(())
+}
+
 #[test]
 fn no_place_is_shown_where_none_is_known(rt: HostRuntime) -> Result<(), OutOfMemory> {
     let alloc = rt.alloc();
@@ -223,9 +288,9 @@ fn no_place_is_shown_where_none_is_known(rt: HostRuntime) -> Result<(), OutOfMem
 const SCHEDULE: &str = "schedule 1\nden 1\ncycle 100\nphases 1\nphase 10 30.5\nend\n";
 
 const DECIMALS: &str = "error[1]: this line of the schedule is out of form
- --> own.schedule:5:1
+ --> own.schedule:5:10
 5 | phase 10 30.5
-  | ^^^^^^^^^^^^^
+  |          ^^^^ no whole number
   = why: times are whole numbers over `den`
   = help: write `den 2` and double each number, or take whole femtoseconds
   = note: `refused 1 schedule 5`; `mintcx explain 1` says more

@@ -3,9 +3,11 @@
 use crate::cases::{Case, first_word, is_last, text_name};
 use crate::counts::put_count;
 use crate::files::{name_at, name_of, named};
+use crate::places::fault_of;
 use crate::writing::put_number;
 use mintc_text::limits::MOST_TOLD;
 use mintc_text::{Bytes, Kind, Lines, OutOfMemory, Refusal, Role};
+use mintcx_finders::{Class, Fault, name_of as name_of_range};
 use std::alloc::Global;
 
 /// Writes what a text is that is out of form, or ends too soon.
@@ -39,6 +41,28 @@ fn put_quoted(out: &mut Lines, before: &[u8], name: &[u8], none: &[u8]) -> Resul
     out.put(b"`")
 }
 
+/// Writes that a name is given twice.
+fn put_twice(out: &mut Lines, case: &Case<'_>) -> Result<(), OutOfMemory> {
+    let Some(Fault::Again { class, earlier }) = fault_of(case.place) else {
+        return out.put(b"this statement gives a name a second time");
+    };
+    out.put(b"`")?;
+    out.put(name_of_range(case.file, &earlier))?;
+    match class {
+        Class::Module => out.put(b"` names two modules"),
+        Class::Port | Class::Net => out.put(b"` is declared twice"),
+        Class::Instance => out.put(b"` names two instances"),
+    }
+}
+
+/// The name of the module that has itself inside; none where it isn't found.
+fn ring_name<'a>(case: &Case<'a>) -> &'a [u8] {
+    match fault_of(case.place) {
+        Some(Fault::Ring { module, .. }) => name_of_range(case.file, &module),
+        _ => b"",
+    }
+}
+
 /// What is wrong with a statement.
 fn put_statement(out: &mut Lines, case: &Case<'_>) -> Result<(), OutOfMemory> {
     let word = first_word(case.file, case.place);
@@ -50,10 +74,10 @@ fn put_statement(out: &mut Lines, case: &Case<'_>) -> Result<(), OutOfMemory> {
             b"the cell of an instance is neither described nor a module",
         ),
         Refusal::Recursive { .. } => {
-            put_quoted(out, b"module", word, b"a module")?;
+            put_quoted(out, b"module", ring_name(case), b"a module")?;
             out.put(b" has itself inside")
         }
-        Refusal::NameTwice { .. } => out.put(b"this statement gives a name a second time"),
+        Refusal::NameTwice { .. } => put_twice(out, case),
         Refusal::NoPin { .. } => out.put(b"this statement names a pin or port that isn't there"),
         Refusal::Width { .. } => out.put(b"the widths in this statement don't fit"),
         _ => out.put(b"this statement drives a bit that has a driver already"),

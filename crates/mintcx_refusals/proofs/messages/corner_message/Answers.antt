@@ -12,8 +12,8 @@ returns c =
     let own_what = c.items-2.result.now in
     let name = c.name_of-name.result.now in
     let excerpt = c.in_ok-excerpt.excerpt in
-    let label = c.label_of.result.now in
-    let advice = c.items-3.result.now in
+    let label = c.items-3.result.now in
+    let advice = c.items-4.result.now in
     record {
       what = what;
       own_what = own_what;
@@ -22,7 +22,7 @@ returns c =
       label = label;
       advice = advice;
       is_name = rw c.teller.ensures at c.name_of-name.ensures;
-      is_excerpt = excerpt_is c.args.file.now own c.place_of-place.result excerpt c.place_of-place.ensures.some c.place_of-place.ensures.none c.in_ok-excerpt.ensures;
+      is_excerpt = excerpt_is c.args.file.now own c.in_ok-place.place excerpt c.in_ok-place.ensures.some c.in_ok-place.ensures.none c.in_ok-excerpt.ensures;
       whole = c.new.ensures ∙ c.into_bytes.ensures
           ∙ made_of_five (head corner ++ what ++ 10 ∷ []) (head own ++ own_what ++ 10 ∷ []) (place_text name excerpt label) advice (corner_note corner own)
           c.new-lines.ensures c.in_ok-put_head.ensures c.in_ok-put_head-2.ensures c.in_ok-put_place.ensures c.in_ok-put.ensures.ok c.in_ok-put_corner_note.ensures;

@@ -9,8 +9,8 @@ returns c =
     let what = c.items.result.now in
     let name = c.name_of-name.result.now in
     let excerpt = c.in_ok-excerpt.excerpt in
-    let label = c.label_of.result.now in
-    let advice = c.items-2.result.now in
+    let label = c.items-2.result.now in
+    let advice = c.items-3.result.now in
     record {
       what = what;
       name = name;
@@ -18,7 +18,7 @@ returns c =
       label = label;
       advice = advice;
       is_name = c.name_of-name.ensures;
-      is_excerpt = excerpt_is c.args.file.now refused c.place_of-place.result excerpt c.place_of-place.ensures.some c.place_of-place.ensures.none c.in_ok-excerpt.ensures;
+      is_excerpt = excerpt_is c.args.file.now refused c.in_ok-place.place excerpt c.in_ok-place.ensures.some c.in_ok-place.ensures.none c.in_ok-excerpt.ensures;
       whole = c.new.ensures ∙ c.into_bytes.ensures
           ∙ made (head refused ++ what ++ 10 ∷ []) (place_text name excerpt label) advice (note refused)
           c.new-lines.ensures c.in_ok-put_head.ensures c.in_ok-put_place.ensures c.in_ok-put.ensures.ok c.in_ok-put_note.ensures;

@@ -14,7 +14,7 @@ returns c =
       spot = spot;
       what = what;
       is_name = c.name_of.ensures;
-      is_spot = spot_is c.args.file.now refused c.place_of-place.result spot c.place_of-place.ensures.some c.place_of-place.ensures.none c.spot_at.ensures;
+      is_spot = spot_is c.args.file.now refused c.in_ok-place.place spot c.in_ok-place.ensures.some c.in_ok-place.ensures.none c.spot_at.ensures;
       whole = c.new.ensures ∙ c.into_bytes.ensures
           ∙ made_of_two (short_place name spot) (head refused ++ what ++ 10 ∷ []) c.new-lines.ensures c.in_ok-put_short_place.ensures c.in_ok-put_head.ensures;
     }
