@@ -104,3 +104,6 @@ step-end d ts e = grind (arith, e)
 
 pub step-opening : (ts : List Token) → (stepped ts).0 ≡ mark.Open → ts ≡ opening ∷ (stepped ts).1
 step-opening ts e = grind (arith, e)
+
+pub step-closing : (ts : List Token) → (stepped ts).0 ≡ mark.Close → ts ≡ closing ∷ (stepped ts).1
+step-closing ts e = grind (arith, e)

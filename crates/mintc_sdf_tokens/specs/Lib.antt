@@ -1,5 +1,6 @@
 -- What contracts of public calls and laws say:
 pub mod Tokens
+pub mod Scans
 pub mod Items
 pub mod Words
 pub mod Reading

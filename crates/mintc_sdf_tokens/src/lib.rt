@@ -6,18 +6,20 @@
 //! what it passed and what is left. Where the item of a condition begins that counts is found in one walk, however deep
 //! conditions stand in one another.
 //!
-//! The crate above gets that reader and that item, and what words are: keywords, edges, names, paths and units of time.
-//! One law: items are the tokens.
+//! The crates above get that reader, a scanner that also tells where in the text it is, that item, and what words are:
+//! keywords, edges, names, paths and units of time. One law: items are the tokens.
 #![tactic(auto)]
 
 mod bytes;
 mod conditions;
 mod laws;
 mod reader;
+mod scanner;
 mod trivia;
 mod words;
 
 pub use conditions::{Layer, condition, innermost};
 pub use laws::items_are_the_tokens;
 pub use reader::{Reader, TokenKind};
+pub use scanner::Scanner;
 pub use words::{is_edge, is_key, names, product, time_of, times_of, unit_of, without_escapes};

@@ -39,6 +39,7 @@ pub(crate) fn skip_trivia(text: &[u8], from: usize, last: usize) -> usize
     ensures same { tokens_of (drop result text.now) ≡ tokens_of (drop from text.now) }
     ensures settled { is_settled piece_of (drop result text.now) ≡ true }
     ensures within { result ≤ length text.now }
+    ensures ahead { from ≤ result }
 {
     let mut at = from;
     while at < text.len() {

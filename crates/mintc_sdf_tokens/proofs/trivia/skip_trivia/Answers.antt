@@ -17,4 +17,4 @@ pub loop-at-preserved : goal.loop-at-preserved
 loop-at-preserved c =
     let some : 0 < c.trivia_size-size.result = omega (arith, c.if-size-eq0.false) in
     let p = pass piece_of piece-fits _ _ _ c.loop-at-test.true c.trivia_size-size.ensures some in
-    record { within = p.1; same = p.0 ∙ c.loop-at.invariant.same }
+    record { within = p.1; ahead = omega (arith, c.loop-at.invariant.ahead); same = p.0 ∙ c.loop-at.invariant.same }

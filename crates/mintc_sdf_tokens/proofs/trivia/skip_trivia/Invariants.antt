@@ -6,6 +6,7 @@ use Rattle.mintc_sdf_tokens.proofs.trivia.skip_trivia.Given as goal
 abbrev pub invariant-loop-at : goal.invariant-loop-at
 invariant-loop-at l = record {
   within : l.at ≤ length l.text;
+  ahead : l.from ≤ l.at;
   same : tokens_of (drop l.at l.text) ≡ tokens_of (drop l.from l.text);
 }
 

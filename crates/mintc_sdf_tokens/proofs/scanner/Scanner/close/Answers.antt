@@ -1,17 +1,18 @@
 use Rattle.std.proofs.Common.{drop, Some, sym, ap, ◌∙◌, arith, length-drop, drop-drop}
+use Rattle.mintc_sdf_tokens.specs.Scans.{Scan}
 use Rattle.mintc_sdf_tokens.specs.Tokens.{tokens_of}
 use Rattle.mintc_sdf_tokens.specs.Reading.{mark_of, after_closing}
 use Rattle.mintc_sdf_tokens.proofs.FirstLaws.{is-closing}
-use Rattle.mintc_sdf_tokens.proofs.reader.Reader.close.Goals as goal
+use Rattle.mintc_sdf_tokens.proofs.scanner.Scanner.close.Goals as goal
 
 pub skip_trivia-self-inside-requires-clause-within : goal.skip_trivia-self-inside-requires-clause-within
 skip_trivia-self-inside-requires-clause-within c =
-    let o = is-closing (drop c.self.inside.at c.self.inside.text.now) c.self.invariant.1 (ap mark_of c.self.view_is ∙ sym c.mark.ensures ∙ c.in-Close.is) in
+    let o = is-closing (drop c.self.inside.at c.self.inside.text.now) c.self.invariant.1 (ap mark_of (ap (λ (s : Scan). s.tokens) c.self.view_is) ∙ sym c.mark.ensures ∙ c.in-Close.is) in
     omega (arith, o.0, length-drop c.self.inside.at c.self.inside.text.now)
 
-pub returns : goal.returns
-returns c =
+pub returns-clause-passed : goal.returns-clause-passed
+returns-clause-passed c =
     let bs = drop c.self.inside.at c.self.inside.text.now in
-    let o = is-closing bs c.self.invariant.1 (ap mark_of c.self.view_is ∙ sym c.mark.ensures ∙ c.in-Close.is) in
-    ap after_closing (sym c.self.view_is ∙ o.1)
+    let o = is-closing bs c.self.invariant.1 (ap mark_of (ap (λ (s : Scan). s.tokens) c.self.view_is) ∙ sym c.mark.ensures ∙ c.in-Close.is) in
+    ap after_closing (sym (ap (λ (s : Scan). s.tokens) c.self.view_is) ∙ o.1)
     ∙ ap Some (ap tokens_of (drop-drop 1 c.self.inside.at c.self.inside.text.now) ∙ sym c.skip_trivia-self-inside.ensures.same)
