@@ -1,4 +1,6 @@
 mod FeedLaws
+mod HeadLaws
 mod ListedLaws
 mod ShownLaws
+mod StepLaws
 mod TurnLaws

@@ -52,3 +52,8 @@ pub record IsSpot (text : List ℕ) (at : ℕ) (spot : Spot) : Type 0 where
   pub free : IsFree text from at
   pub line : spot.line ≡ feeds (take at text) + 1
   pub column : spot.column + from ≡ at + 1
+
+-- what is left of a line from a place on goes up to its end, without its line feed and the carriage return before it
+abbrev pub IsRest : List ℕ → Range → Type 0
+IsRest text range = (line : ℕ) × (end : ℕ) × IsLine text line end × (line ≤ range.from) × (range.from ≤ end)
+    × (range.to ≡ before_return text range.from end)

@@ -1,6 +1,7 @@
 //! Lines, and places in them.
 ghost use Rattle.std.specs.Prelude.{◌≡◌, ◌≤◌, ◌<◌, ◌+◌, ◌^◌, ℕ, List, IfNone, IfSome, length, take};
-ghost use Rattle.mintcx_places.specs.Lines.{Begins, HasNoLine, IsLine, IsNumbered, IsSpot, before_return, feeds};
+ghost use Rattle.mintcx_places.specs.Lines.{Begins, HasNoLine, IsLine, IsNumbered, IsRest, IsSpot, before_return};
+ghost use Rattle.mintcx_places.specs.Lines.{feeds};
 
 use mintc_text::place_of;
 
@@ -110,6 +111,20 @@ pub(crate) fn line_around(text: &[u8], at: usize) -> Line
         end = place_of(b'\n', text, from);
     }
     Line { number, from, end }
+}
+
+/// The line on which a place stands, from there on, without its line feed and the carriage return before it.
+pub(crate) fn rest_of_line(text: &[u8], from: usize) -> Range
+    requires { from ≤ length text.now }
+    ensures from { result.from ≡ from }
+    ensures rest { IsRest text.now result }
+    ensures within { (from ≤ result.to) × (result.to ≤ length text.now) }
+{
+    let line = line_around(text, from);
+    Range {
+        from,
+        to: before_return(text, from, line.end),
+    }
 }
 
 /// Where a place of a line stands.

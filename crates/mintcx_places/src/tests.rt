@@ -1,5 +1,7 @@
 //! Places by hand.
-use crate::{Range, excerpt_of, line_range, spot_of, statement_range};
+use crate::{
+    Range, entry_range, excerpt_of, library_statement_range, line_range, spot_of, statement_range,
+};
 use mintc_text::OutOfMemory;
 use std::process::Abort;
 
@@ -99,4 +101,65 @@ fn long_lines_are_cut(rt: HostRuntime) -> Result<(), OutOfMemory> {
         excerpt.line.items().starts_with(b"...x") && excerpt.caret == 63 && excerpt.marks == 40
     );
     Ok(())
+}
+
+const ENTRIES: &[Row] = &[
+    ("", 1, None),
+    ("(DELAYFILE\n", 0, None),
+    ("(DELAYFILE\n", 1, None),
+    (
+        "(DELAYFILE (A) /* ( */\n ( B (C \"(\")) ( D\nE (F) )\n)",
+        1,
+        Some((11, 14)),
+    ),
+    (
+        "(DELAYFILE (A) /* ( */\n ( B (C \"(\")) ( D\nE (F) )\n)",
+        2,
+        Some((24, 36)),
+    ),
+    (
+        "(DELAYFILE (A) /* ( */\n ( B (C \"(\")) ( D\nE (F) )\n)",
+        3,
+        Some((37, 48)),
+    ),
+    (
+        "(DELAYFILE (A) /* ( */\n ( B (C \"(\")) ( D\nE (F) )\n)",
+        4,
+        None,
+    ),
+    ("(DELAYFILE (A) (B\r\n (C)", 2, Some((15, 17))),
+    ("(DELAYFILE (A) B (C)", 2, None),
+];
+
+const LIBRARY: &[Row] = &[
+    ("", 1, None),
+    ("library (l) {\n", 0, None),
+    ("library (l) {\n", 1, None),
+    (
+        "library (l) {\n a : 1;\n c (d) {\n e : 2\n",
+        1,
+        Some((15, 21)),
+    ),
+    (
+        "library (l) {\n a : 1;\n c (d) {\n e : 2\n",
+        2,
+        Some((23, 30)),
+    ),
+    ("library (l) {\n a : 1;\n c (d) {\n e : 2\n", 3, None),
+    ("library (l) {\n a : 1;\n} extra", 2, None),
+    ("library (l) { ; }", 1, Some((14, 17))),
+];
+
+#[test]
+fn entries_have_their_places(rt: HostRuntime) {
+    for (text, number, wanted) in ENTRIES {
+        assert!(rt; is_range(entry_range(text.as_bytes(), *number), *wanted));
+    }
+}
+
+#[test]
+fn library_statements_have_their_places(rt: HostRuntime) {
+    for (text, number, wanted) in LIBRARY {
+        assert!(rt; is_range(library_statement_range(text.as_bytes(), *number), *wanted));
+    }
 }
