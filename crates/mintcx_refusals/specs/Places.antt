@@ -6,14 +6,18 @@ use Rattle.mintc_text.specs.declared.refusals.Refusal.TheVariants as refusal
 use Rattle.mintcx_places.specs.declared.lines.Range.{Range}
 use Rattle.mintcx_places.specs.Lines.{HasNoLine, IsNumbered}
 use Rattle.mintcx_places.specs.Statements.{HasNoStatement, IsStatement}
+use Rattle.mintcx_places.specs.Entries.{HasNoEntry, IsEntry}
+use Rattle.mintcx_places.specs.Library.{HasNoLibraryStatement, IsLibraryStatement}
 use Rattle.mintcx_refusals.specs.declared.places.Place.{Place}
 use Rattle.mintcx_refusals.specs.declared.places.Pointer.{Pointer}
-use Rattle.mintcx_refusals.specs.declared.places.Pointer.TheVariants.{Statement, Line, Nowhere}
+use Rattle.mintcx_refusals.specs.declared.places.Pointer.TheVariants.{Statement, Entry, LibraryStatement, Line, Nowhere}
 
--- what is pointed at: a statement of the netlist, a line of a table, a schedule or a certificate, or no place that is
--- known; a schedule says on line 4 how many phases it has
+-- what is pointed at: a statement of the netlist or of the library, an entry of the delays, a line of a table, a
+-- schedule or a certificate, or no place that is known; a schedule says on line 4 how many phases it has
 abbrev pub pointer_of : Refusal → Pointer
 pointer_of (refusal.Syntax role.Netlist entry) = Statement entry
+pointer_of (refusal.Syntax role.Delays entry) = Entry entry
+pointer_of (refusal.Syntax role.Cells entry) = LibraryStatement entry
 pointer_of (refusal.Syntax role.Table entry) = Line entry
 pointer_of (refusal.Syntax role.Schedule entry) = Line entry
 pointer_of (refusal.Syntax role.Certificate entry) = Line entry
@@ -23,24 +27,34 @@ pointer_of (refusal.Recursive entry) = Statement entry
 pointer_of (refusal.NoPin entry) = Statement entry
 pointer_of (refusal.Width entry) = Statement entry
 pointer_of (refusal.TwoDrivers entry) = Statement entry
+pointer_of (refusal.NoInstance role.Delays entry) = Entry entry
+pointer_of (refusal.NoArc entry) = Entry entry
+pointer_of (refusal.Negative entry) = Entry entry
+pointer_of (refusal.Range entry) = Entry entry
 pointer_of (refusal.PhaseMismatch design schedule) = Line 4
 pointer_of _ = Nowhere
 
--- the statement or the line before
+-- the statement, the entry or the line before
 abbrev pub before : Pointer → Pointer
 before (Statement n) = Statement (n - 1)
+before (Entry n) = Entry (n - 1)
+before (LibraryStatement n) = LibraryStatement (n - 1)
 before (Line n) = Line (n - 1)
 before Nowhere = Nowhere
 
 -- a range is that of what is pointed at
 abbrev pub IsAt : List ℕ → Pointer → Range → Type 0
 IsAt file (Statement n) range = IsStatement file n range
+IsAt file (Entry n) range = IsEntry file n range
+IsAt file (LibraryStatement n) range = IsLibraryStatement file n range
 IsAt file (Line n) range = IsNumbered file n range
 IsAt file Nowhere range = ⊥
 
 -- the file has nothing that is pointed at
 abbrev pub HasNone : List ℕ → Pointer → Type 0
 HasNone file (Statement n) = HasNoStatement file n
+HasNone file (Entry n) = HasNoEntry file n
+HasNone file (LibraryStatement n) = HasNoLibraryStatement file n
 HasNone file (Line n) = HasNoLine file n
 HasNone file Nowhere = Unit {0}
 

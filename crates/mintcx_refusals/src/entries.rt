@@ -1,4 +1,4 @@
-//! Which entry of its file a refusal speaks of, where no place is shown.
+//! Which entry of its file a refusal speaks of, where its place isn't shown whole.
 
 use crate::cases::{Case, is_last};
 use crate::writing::put_number;
@@ -89,10 +89,26 @@ fn put_entry(out: &mut Lines, case: &Case<'_>) -> Result<(), OutOfMemory> {
     }
 }
 
-/// Which entry of its file a refusal speaks of, or which one is missing; nothing where its place is shown.
+/// Whether no more than the first line of a place is shown: of an entry of the delays or a statement of the library.
+fn is_begun(refusal: &Refusal) -> bool {
+    matches!(
+        refusal,
+        Refusal::Syntax {
+            role: Role::Delays | Role::Cells,
+            ..
+        } | Refusal::NoInstance {
+            role: Role::Delays,
+            ..
+        } | Refusal::NoArc { .. }
+            | Refusal::Negative { .. }
+            | Refusal::Range { .. }
+    )
+}
+
+/// Which entry of its file a refusal speaks of, or which one is missing; nothing where its place is shown whole.
 pub(crate) fn entry_of(alloc: Global, case: &Case<'_>) -> Result<Bytes, OutOfMemory> {
     let mut lines = Lines::new(alloc);
-    if case.place.is_none() || is_last(case.place) {
+    if case.place.is_none() || is_last(case.place) || is_begun(case.own) {
         put_entry(&mut lines, case)?;
     }
     Ok(Bytes::new(lines.into_bytes()))

@@ -63,6 +63,14 @@ fn whole_label(case: &Case<'_>) -> &'static [u8] {
             role: Role::Netlist,
             ..
         } if is_last(case.place) => b" the last statement; `endmodule` has to follow",
+        Refusal::Syntax {
+            role: Role::Delays,
+            ..
+        } if is_last(case.place) => b" the last entry; `)` alone has to follow",
+        Refusal::Syntax {
+            role: Role::Cells,
+            ..
+        } if is_last(case.place) => b" the last statement; `}` alone has to follow",
         Refusal::Syntax { .. } if is_last(case.place) => b" the last line; `end` has to follow",
         Refusal::TwoDrivers { .. } => b" driven again",
         _ => b"",

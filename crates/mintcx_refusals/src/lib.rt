@@ -4,7 +4,8 @@
 //! marks below it, why it is refused and what helps, and at the end mintc's own line. `file_of` tells which file of the
 //! command a refusal speaks of, so that the caller reads that file alone once more; `refusal_message` and
 //! `short_message` take its bytes. For a corner these are the file of `teller`, and `corner_message`. A place is shown
-//! where it is known: statements of the netlist, and lines of tables, schedules and certificates.
+//! where it is known: statements of the netlist, lines of tables, schedules and certificates, and the first line of an
+//! entry of the delays or of a statement of the library.
 #![tactic(auto)]
 
 mod advice;

@@ -7,7 +7,7 @@ ghost use Rattle.mintcx_refusals.specs.Places.{pointer_of};
 
 use mintc_text::{OutOfMemory, Refusal, Role};
 use mintcx_finders::{Fault, Found, behaviour, field_fault, missing_cell, name_twice, ring};
-use mintcx_places::{Range, line_range, statement_range};
+use mintcx_places::{Range, entry_range, library_statement_range, line_range, statement_range};
 use std::alloc::Global;
 
 /// What a refusal points at.
@@ -15,14 +15,18 @@ use std::alloc::Global;
 pub(crate) enum Pointer {
     /// The statement of this number of the netlist.
     Statement(u32),
+    /// The entry of this number of the delays.
+    Entry(u32),
+    /// The statement of this number directly in the library.
+    LibraryStatement(u32),
     /// The line of this number.
     Line(u32),
     /// No place that is known.
     Nowhere,
 }
 
-/// A place of a file: what is pointed at, or the last line or statement of a file that ends too soon. What of it is
-/// marked, and why, if that is found: else all of it is marked.
+/// A place of a file: what is pointed at, or the last line, statement or entry before it, where the file ends too soon.
+/// What of it is marked, and why, if that is found: else all of it is marked.
 #[derive(Clone, Copy)]
 pub(crate) struct Place {
     pub(crate) range: Range,
@@ -41,7 +45,9 @@ fn syntax_pointer(role: Role, entry: u32) -> Pointer
     match role {
         Role::Netlist => Pointer::Statement(entry),
         Role::Table | Role::Schedule | Role::Certificate => Pointer::Line(entry),
-        Role::Delays | Role::Cells | Role::Clock => Pointer::Nowhere,
+        Role::Delays => Pointer::Entry(entry),
+        Role::Cells => Pointer::LibraryStatement(entry),
+        Role::Clock => Pointer::Nowhere,
     }
 }
 
@@ -57,29 +63,35 @@ fn pointer_of(refusal: &Refusal) -> Pointer
         | Refusal::NoPin { entry }
         | Refusal::Width { entry }
         | Refusal::TwoDrivers { entry } => Pointer::Statement(*entry),
+        Refusal::NoInstance {
+            role: Role::Delays,
+            entry,
+        }
+        | Refusal::NoArc { entry }
+        | Refusal::Negative { entry }
+        | Refusal::Range { entry } => Pointer::Entry(*entry),
         Refusal::PhaseMismatch { .. } => Pointer::Line(PHASES_LINE),
         Refusal::TooLong { .. }
         | Refusal::TopUnclear { .. }
         | Refusal::NoInstance { .. }
-        | Refusal::NoArc { .. }
-        | Refusal::Negative { .. }
         | Refusal::BadCell { .. }
         | Refusal::BadClock { .. }
         | Refusal::NoPhase { .. }
         | Refusal::CombinationalLoop { .. }
         | Refusal::Limit { .. }
-        | Refusal::Range { .. }
         | Refusal::PathRange { .. }
         | Refusal::Corner { .. } => Pointer::Nowhere,
     }
 }
 
-/// The statement or the line before.
+/// The statement, the entry or the line before.
 fn before(pointer: Pointer) -> Pointer
     ensures { result ≡ before pointer }
 {
     match pointer {
         Pointer::Statement(number) => Pointer::Statement(number.saturating_sub(1)),
+        Pointer::Entry(number) => Pointer::Entry(number.saturating_sub(1)),
+        Pointer::LibraryStatement(number) => Pointer::LibraryStatement(number.saturating_sub(1)),
         Pointer::Line(number) => Pointer::Line(number.saturating_sub(1)),
         Pointer::Nowhere => Pointer::Nowhere,
     }
@@ -93,6 +105,8 @@ fn range_at(file: &[u8], pointer: Pointer) -> Option<Range>
 {
     match pointer {
         Pointer::Statement(number) => statement_range(file, number),
+        Pointer::Entry(number) => entry_range(file, number),
+        Pointer::LibraryStatement(number) => library_statement_range(file, number),
         Pointer::Line(number) => line_range(file, number),
         Pointer::Nowhere => None,
     }

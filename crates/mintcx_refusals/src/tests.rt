@@ -285,6 +285,111 @@ fn no_place_is_shown_where_none_is_known(rt: HostRuntime) -> Result<(), OutOfMem
     Ok(())
 }
 
+const DELAYS: &str = "(DELAYFILE (SDFVERSION \"3.0\") (DIVIDER /) (TIMESCALE 1ns)
+(CELL (CELLTYPE \"BUF\") (INSTANCE u1/s/b)
+ (DELAY (INCREMENT (IOPATH A Y (0.020:0.020:0.020)))))
+(CELL (CELLTYPE \"BUF\") (INSTANCE u3/s/b)
+ (DELAY (ABSOLUTE (IOPATH A Y (1500) (-0.018)))))
+";
+
+const INCREMENT: &str = "error[1]: this part of the delays isn't read
+ --> top.sdf:2:1
+2 | (CELL (CELLTYPE \"BUF\") (INSTANCE u1/s/b)
+  | ^^^^^^^^^^^^^^^^^^^^^^^^^^^^^^^^^^^^^^^^
+  = why: it is entry 4; entries are counted from 1, headers and cells alike
+  = help: have the tool write ABSOLUTE delays and timing checks alone
+  = note: `refused 1 delays 4`; `mintcx explain 1` says more
+";
+
+const UNENDED: &str = "error[1]: the delays don't end behind their last entry
+ --> top.sdf:4:1
+4 | (CELL (CELLTYPE \"BUF\") (INSTANCE u3/s/b)
+  | ^^^^^^^^^^^^^^^^^^^^^^^^^^^^^^^^^^^^^^^^ the last entry; `)` alone has to follow
+  = why: it is entry 6; entries are counted from 1, headers and cells alike
+  = help: have the tool write ABSOLUTE delays and timing checks alone
+  = note: `refused 1 delays 6`; `mintcx explain 1` says more
+";
+
+const NO_INSTANCE: &str = "error[10]: the delays speak of an instance that isn't there
+ --> top.sdf:4:1
+4 | (CELL (CELLTYPE \"BUF\") (INSTANCE u3/s/b)
+  | ^^^^^^^^^^^^^^^^^^^^^^^^^^^^^^^^^^^^^^^^
+  = why: it is entry 5; entries are counted from 1, headers and cells alike
+  = help: write the SDF of this very netlist; look at DIVIDER, and at names with backslashes
+  = note: `refused 10 delays 5`; `mintcx explain 10` says more
+";
+
+const NO_ARC: &str = "error[11]: the delays speak of pins that their cell doesn't have
+ --> top.sdf:2:1
+2 | (CELL (CELLTYPE \"BUF\") (INSTANCE u1/s/b)
+  | ^^^^^^^^^^^^^^^^^^^^^^^^^^^^^^^^^^^^^^^^
+  = why: it is entry 4; entries are counted from 1, headers and cells alike
+  = help: mend the pins; for a latch or flop look at its entry in cells.toml
+  = note: `refused 11 4`; `mintcx explain 11` says more
+";
+
+const NEGATIVE: &str = "error[12]: a delay below 0
+ --> top.sdf:4:1
+4 | (CELL (CELLTYPE \"BUF\") (INSTANCE u3/s/b)
+  | ^^^^^^^^^^^^^^^^^^^^^^^^^^^^^^^^^^^^^^^^
+  = why: it is entry 5; entries are counted from 1, headers and cells alike
+  = why: static timing tools write them where tables are read beyond their ends, mostly at long nets
+  = help: buffer the net
+  = note: `refused 12 5`; `mintcx explain 12` says more
+";
+
+const TOO_LONG: &str = "error[18]: a number above 1 us
+ --> top.sdf:4:1
+4 | (CELL (CELLTYPE \"BUF\") (INSTANCE u3/s/b)
+  | ^^^^^^^^^^^^^^^^^^^^^^^^^^^^^^^^^^^^^^^^
+  = why: it is entry 5; entries are counted from 1, headers and cells alike
+  = help: mend the unit: a microsecond between two latches is mostly a mistake
+  = note: `refused 18 5`; `mintcx explain 18` says more
+";
+
+const LIBRARY: &str = "library (cells) {\n  cell (BUF) {\n  area : 4.0\n  }\n}\n";
+
+const NO_SEMICOLON: &str = "error[1]: this statement of the library is out of form
+ --> cells.lib:2:3
+2 |   cell (BUF) {
+  |   ^^^^^^^^^^^^
+  = why: it is statement 1 directly in the library
+  = help: end it with `;`, or fetch the library again
+  = note: `refused 1 cells 1`; `mintcx explain 1` says more
+";
+
+#[test]
+fn entries_out_of_form_are_shown(rt: HostRuntime) -> Result<(), OutOfMemory> {
+    let alloc = rt.alloc();
+    for (entry, text) in &[(4, INCREMENT), (6, UNENDED)] {
+        let refusal = Refusal::Syntax {
+            role: Role::Delays,
+            entry: *entry,
+        };
+        assert!(rt; is_told(alloc, &refusal, DELAYS, text)?);
+    }
+    let statement = Refusal::Syntax {
+        role: Role::Cells,
+        entry: 1,
+    };
+    assert!(rt; is_told_beside(alloc, b"cells.lib", &statement, LIBRARY, NO_SEMICOLON)?);
+    Ok(())
+}
+
+#[test]
+fn entries_of_delays_are_shown(rt: HostRuntime) -> Result<(), OutOfMemory> {
+    let alloc = rt.alloc();
+    let no_instance = Refusal::NoInstance {
+        role: Role::Delays,
+        entry: 5,
+    };
+    assert!(rt; is_told(alloc, &no_instance, DELAYS, NO_INSTANCE)?);
+    assert!(rt; is_told(alloc, &Refusal::NoArc { entry: 4 }, DELAYS, NO_ARC)?);
+    assert!(rt; is_told(alloc, &Refusal::Negative { entry: 5 }, DELAYS, NEGATIVE)?);
+    assert!(rt; is_told(alloc, &Refusal::Range { entry: 5 }, DELAYS, TOO_LONG)?);
+    Ok(())
+}
+
 const SCHEDULE: &str = "schedule 1\nden 1\ncycle 100\nphases 1\nphase 10 30.5\nend\n";
 
 const DECIMALS: &str = "error[1]: this line of the schedule is out of form

@@ -15,7 +15,9 @@ fn put_syntax(out: &mut Lines, role: Role, is_last: bool) -> Result<(), OutOfMem
     match role {
         Role::Netlist if is_last => out.put(b"the netlist ends inside of a module"),
         Role::Netlist => out.put(b"this statement isn't structural Verilog"),
+        Role::Delays if is_last => out.put(b"the delays don't end behind their last entry"),
         Role::Delays => out.put(b"this part of the delays isn't read"),
+        Role::Cells if is_last => out.put(b"the library doesn't end behind its last statement"),
         Role::Cells => out.put(b"this statement of the library is out of form"),
         Role::Clock | Role::Schedule | Role::Certificate | Role::Table if is_last => {
             out.put(b"the ")?;
