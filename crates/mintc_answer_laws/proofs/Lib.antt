@@ -1,0 +1,7 @@
+mod OrderLaws
+mod GivenLaws
+mod JobLaws
+mod SameLaws
+mod CornerLaws
+mod AlikeLaws
+mod JointLaws

@@ -1,0 +1,3 @@
+-- What contracts of public calls and laws say:
+pub mod Free
+pub mod Corners

@@ -1,0 +1,5 @@
+mod Rounds
+mod Apart
+mod LateLaws
+mod EarlyLaws
+mod ExistenceLaws

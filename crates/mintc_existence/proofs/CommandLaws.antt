@@ -1,0 +1,70 @@
+-- A command is answered where its source has timings and its job has answers.
+use Rattle.std.proofs.Common.{◌≡◌, ◌≢◌, ◌<◌, ◌≤◌, ◌++◌, ℕ, suc, List, [], ◌∷◌, length, refl, inl, inr, ◌⊎◌, ⊎_elim, arith}
+use Rattle.std.proofs.lemmas.Bool.{cases_lt}
+use Rattle.std.proofs.lemmas.List.Elements.{All-nil, All-cons}
+use Rattle.mintc_text.specs.declared.limits.Most.{Most}
+use Rattle.mintc_text.specs.declared.refusals.Refusal.{Refusal}
+use Rattle.mintc_text.specs.declared.refusals.Refusal.TheVariants as refusal
+use Rattle.mintc_text.specs.declared.refusals.Role.{Role}
+use Rattle.mintc_timing.specs.Design.{Timing}
+use Rattle.mintc_command_answers.specs.Answers.{IsDefined, of_contents, of_design, of_file, too_long}
+use Rattle.mintc_command_answers.specs.Commands.{job_roles, source_roles}
+use Rattle.mintc_command_answers.specs.Jobs.{IsFileRefused, IsJobAnswer}
+use Rattle.mintc_command_answers.specs.Sources.{AreShort, Gives, IsLengthRefusal, IsSourceRefused, own_file}
+use Rattle.mintc_command_answers.specs.declared.command.Command.TheVariants.{OfDesign}
+use Rattle.mintc_command_answers.specs.declared.command.Job.{Job}
+use Rattle.mintc_command_answers.specs.declared.command.Job.TheVariants.{Check, Verify}
+use Rattle.mintc_command_answers.specs.declared.command.Source.{Source}
+use Rattle.mintc_command_answers.specs.declared.command.Source.TheVariants.{Table}
+use Rattle.mintc_command_answers.specs.declared.status.Status.{Status}
+use Rattle.mintc_command_answers.specs.declared.status.Status.TheVariants.{Done, Found, Refused, Usage, ReadFault, WriteFault, OutOfMemory}
+use Rattle.mintc_existence.specs.Answers.{ChecksHaveAnswers, VerificationsHaveAnswers}
+use Rattle.mintc_existence.specs.Commands.{HasAnswers, HasTimings, IsAnswered, JobsAreAnswered, TablesAreAnswered, TablesHaveTimings}
+
+-- Files are short, or one is the first that is too long.
+lengths : (most : Most) (roles : List Role) (files : List (List ℕ)) → length files ≡ length roles → AreShort most files ⊎ ((refused : Refusal) × IsLengthRefusal most roles files refused)
+lengths most roles [] many = inl (All-nil (λ (b : List ℕ). length b ≤ most.bytes))
+lengths most [] (bytes ∷ files) many = absurd (omega arith)
+lengths most (role ∷ roles) (bytes ∷ files) many =
+    ⊎_elim
+    (λ (long : most.bytes < length bytes). inr (refusal.TooLong role, inl (long, refl)))
+    (λ (short : length bytes ≤ most.bytes).
+    ⊎_elim
+    (λ (rest : AreShort most files). inl (All-cons (λ (b : List ℕ). length b ≤ most.bytes) bytes files short rest))
+    (λ (rest : (refused : Refusal) × IsLengthRefusal most roles files refused). inr (rest.0, inr (short, rest.1)))
+    (lengths most roles files (omega (arith, many))))
+    (cases_lt most.bytes (length bytes))
+
+-- An answer to a job on a timing that files give is the command's; that of a refusal has a text of its own.
+defined : (most : Most) (job : Job) (source : Source) (files : List (List ℕ)) (t : Timing) (status : Status) (text : List ℕ) → AreShort most files → Gives most source files t →
+    (status ≢ Refused) → IsJobAnswer most job t (own_file source files) status text → IsDefined most (OfDesign job source) files status text
+defined most job source files t Refused text short gives other h = absurd (other refl)
+defined most job source files t Done text short gives other h = (short, (t, gives, h))
+defined most job source files t Found text short gives other h = (short, (t, gives, h))
+defined most job source files t Usage text short gives other h = (short, (t, gives, h))
+defined most job source files t ReadFault text short gives other h = (short, (t, gives, h))
+defined most job source files t WriteFault text short gives other h = (short, (t, gives, h))
+defined most job source files t OutOfMemory text short gives other h = (short, (t, gives, h))
+
+pub jobs_are_answered_lem : JobsAreAnswered
+jobs_are_answered_lem most job source timings answers files many =
+    ⊎_elim
+    (λ (short : AreShort most files).
+    ⊎_elim
+    (λ (given : (t : Timing) × Gives most source files t).
+    ⊎_elim
+    (λ (refused : (refused : Refusal) × IsFileRefused most job given.0.flat (own_file source files) refused).
+    inl (refused.0, of_contents short (of_file given.0 given.1 refused.1)))
+    (λ (answer : (status : Status) × (text : List ℕ) × (status ≢ Refused) × IsJobAnswer most job given.0 (own_file source files) status text).
+    inr (answer.0, answer.1, defined most job source files given.0 answer.0 answer.1 short given.1 answer.2 answer.3))
+    (answers given.0 (own_file source files) given.1.accepted.limits given.1.pairs))
+    (λ (refused : (refused : Refusal) × IsSourceRefused most source files refused). inl (refused.0, of_contents short (of_design refused.1)))
+    (timings files))
+    (λ (long : (refused : Refusal) × IsLengthRefusal most (source_roles source ++ job_roles job) files refused). inl (long.0, too_long long.1))
+    (lengths most (source_roles source ++ job_roles job) files many)
+
+pub tables_are_answered_lem : TablesHaveTimings → ChecksHaveAnswers → VerificationsHaveAnswers → TablesAreAnswered
+tables_are_answered_lem timings checks verifications most limits files many = (
+  jobs_are_answered_lem most Check Table (timings most limits) (λ t file design pairs. checks most t file design pairs) files many,
+  jobs_are_answered_lem most Verify Table (timings most limits) (λ t file design pairs. verifications most t file) files many,
+)

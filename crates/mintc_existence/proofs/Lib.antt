@@ -1,0 +1,7 @@
+mod LowestLaws
+mod TextLaws
+mod CheckLaws
+mod Deciding
+mod VerdictLaws
+mod TableLaws
+mod CommandLaws

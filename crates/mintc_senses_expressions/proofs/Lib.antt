@@ -1,0 +1,7 @@
+mod CoverLaws
+mod SenseLaws
+mod ReadBackLaws
+mod WrittenLaws
+mod ReadLaws
+mod FunctionLaws
+mod Worked
