@@ -1,6 +1,6 @@
 -- Corners that are alike, whatever the orders of their arcs, have the same optima.
 use Rattle.std.proofs.Common.{◌≡◌, ◌<◌, ℕ, zero, suc, ℤ, List, [], ◌∷◌, ◌++◌, length, get_or, map, refl, sym, ap, ◌∙◌, subst, arith}
-use Rattle.std.specs.List.{All, AllPairs, AllZip}
+use Rattle.std.specs.List.{AllPairs, AllZip}
 use Rattle.std.specs.Prelude.{flat_map, ◌≢◌}
 use Rattle.mintc_graph.specs.Rings.{IsClosed}
 use Rattle.mintc_timing.specs.declared.clocking.Schedule.{Schedule}
@@ -18,7 +18,7 @@ use Rattle.mintc_corners.specs.declared.certificate.CornerCertificate.{CornerCer
 use Rattle.mintc_corners.specs.declared.certificate.CornerCertificate.TheVariants as joint
 use Rattle.mintc_corners.specs.declared.members.CornerMember.{CornerMember}
 use Rattle.mintc_corners.specs.CornerOptimum.{IsCornerOptimal, IsCornerOptimum, IsCornerRing, IsCornerValid, IsOfCorner, IsOfElements, IsOptimumOf, HasJointEarliest, HasJointSimple, among, corner_of, link_in, link_of_corner, links_of_corners}
-use Rattle.mintc_corners.specs.Joint.{AreJointlyHopeless, AreJointlyRight, IsJointCycle, shifted_pair, side_by_side}
+use Rattle.mintc_corners.specs.Joint.{AreJointlyRight, IsJointCycle, shifted_pair, side_by_side}
 use Rattle.mintc_answer_laws.proofs.GivenLaws.{AreAlike, alike_back}
 use Rattle.mintc_answer_laws.proofs.OrderLaws.{timing_of, in_each_order, member_turned, right_turned}
 

@@ -1,8 +1,7 @@
 -- The answers to `corners` where files are refused: one corner is the first, with one refusal of its own files.
-use Rattle.std.proofs.Common.{◌≡◌, ℕ, zero, suc, ◌<◌, ◌≤◌, List, [], ◌∷◌, ◌++◌, length, get_or, map, drop, refl, ap, ◌∙◌, sym, subst, inl, inr, ◌⊎◌, ⊎_elim, arith}
-use Rattle.std.specs.List.{All}
+use Rattle.std.proofs.Common.{◌≡◌, ℕ, zero, suc, ◌<◌, ◌≤◌, List, [], ◌∷◌, ◌++◌, length, map, drop, refl, ap, ◌∙◌, sym, subst, inl, inr, ◌⊎◌, ⊎_elim, arith}
 use Rattle.std.proofs.lemmas.Bool.{cases_lt}
-use Rattle.std.proofs.lemmas.List.{get_or_default, get_or_past}
+use Rattle.std.proofs.lemmas.List.{get_or_past}
 use Rattle.std.proofs.lemmas.List.Elements.{All-nil, All-cons, All-tail}
 use Rattle.mintc_text.specs.declared.limits.Most.{Most}
 use Rattle.mintc_text.specs.declared.refusals.Refusal.{Refusal}
@@ -11,11 +10,11 @@ use Rattle.mintc_text.specs.declared.refusals.Kind.TheVariants as kind
 use Rattle.mintc_text.specs.declared.refusals.Role.{Role}
 use Rattle.mintc_text.specs.Refusals.{refusal_line}
 use Rattle.mintc_build.specs.Laws.{IsLoopRefusal}
-use Rattle.mintc_command_answers.specs.Answers.{IsFirstRefusal, IsRefusalOn, IsRefusalText, of_contents, of_design, too_long}
+use Rattle.mintc_command_answers.specs.Answers.{IsRefusalOn, IsRefusalText, of_contents, of_design, too_long}
 use Rattle.mintc_command_answers.specs.Contents.{content_roles}
 use Rattle.mintc_command_answers.specs.Corners.{IsFirstRefused, corners_of, elements_together, files_with, of_corner, of_elements}
 use Rattle.mintc_command_answers.specs.Laws.{RefusalsAreDetermined}
-use Rattle.mintc_command_answers.specs.Sources.{AreShort, IsLengthRefusal, IsSourceRefused, file_at}
+use Rattle.mintc_command_answers.specs.Sources.{AreShort, IsLengthRefusal, file_at}
 use Rattle.mintc_command_answers.specs.declared.command.Command.TheVariants.{OfDesign, Corners}
 use Rattle.mintc_command_answers.specs.declared.command.Job.TheVariants.{Optimise}
 use Rattle.mintc_command_answers.specs.declared.command.Source.TheVariants.{Files}

@@ -1,10 +1,10 @@
 -- Two answers to a job on one timing are the same but for what is free.
-use Rattle.std.proofs.Common.{◌≡◌, ◌≢◌, ◌<◌, ◌≤◌, ℕ, ℤ, pos, ◌≤ℤ◌, ◌*ℤ◌, List, [], length, get_or, refl, ap, ◌∙◌, sym, subst, inl, inr, ◌⊎◌, ⊎_elim, arith}
+use Rattle.std.proofs.Common.{◌≡◌, ◌<◌, ◌≤◌, ℕ, ℤ, pos, ◌≤ℤ◌, List, length, get_or, refl, ap, ◌∙◌, sym, subst, inl, inr, ◌⊎◌, ⊎_elim, arith}
 use Rattle.std.proofs.lemmas.Bool.{cases_lt}
 use Rattle.std.proofs.lemmas.List.{same_lists, get_or_default}
 use Rattle.mintc_text.specs.Lines.{text_of}
 use Rattle.mintc_text.specs.declared.limits.Most.{Most}
-use Rattle.mintc_fraction.specs.Ratio.{Ratio, over}
+use Rattle.mintc_fraction.specs.Ratio.{Ratio}
 use Rattle.mintc_fraction.proofs.SharedLowest.{IsLowest-unique}
 use Rattle.mintc_timing.specs.declared.clocking.Schedule.{Schedule}
 use Rattle.mintc_timing.specs.declared.violation.Violation.{Violation}
@@ -12,13 +12,12 @@ use Rattle.mintc_timing.specs.Design.{Timing, phase_count}
 use Rattle.mintc_timing.specs.Laws.{EarlyAreDetermined, LateAreDetermined, LeastCycleIsDetermined, ViolationsAreDetermined}
 use Rattle.mintc_timing.specs.Limits.{IsDesign}
 use Rattle.mintc_timing.specs.Paths.{HasEnds}
-use Rattle.mintc_timing.specs.Right.{IsLeastCycle}
 use Rattle.mintc_timing.specs.Violations.{EndInLoop}
 use Rattle.mintc_timing_text.specs.TextLaws.{HaveOneSchedule, ScheduleTextsAreTheirLines}
 use Rattle.mintc_certificate.specs.declared.certificate.Certificate.{Certificate}
 use Rattle.mintc_certificate.specs.declared.certificate.Certificate.TheVariants as certificate
 use Rattle.mintc_certificate.specs.TextLaws.{HaveOneCertificate}
-use Rattle.mintc_certificate.specs.Valid.{Test, number_of}
+use Rattle.mintc_certificate.specs.Valid.{number_of}
 use Rattle.mintc_checker.specs.declared.verdict.Verdict.{Verdict}
 use Rattle.mintc_checker.specs.declared.verdict.Verdict.TheVariants as verdict
 use Rattle.mintc_checker.specs.Verdicts.{IsVerdict}
@@ -30,7 +29,6 @@ use Rattle.mintc_slack.specs.declared.finding.Slacks.{Slacks}
 use Rattle.mintc_slack.specs.declared.finding.Slacks.TheVariants as slacks
 use Rattle.mintc_slack.specs.Answers.{IsSlackAnswer}
 use Rattle.mintc_slack.specs.Laws.{SlackIsDetermined}
-use Rattle.mintc_slack.specs.Slack.{IsSlack}
 use Rattle.mintc_slack.specs.SlackText.{slack_lines}
 use Rattle.mintc_command_answers.specs.Jobs.{IsJobAnswer, IsJudgement, IsOptimum, IsScheduleOf}
 use Rattle.mintc_command_answers.specs.Optima.{DifferInChain, OptimaAreDetermined, SafeOptimaAreDetermined}

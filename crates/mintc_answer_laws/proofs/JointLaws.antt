@@ -1,23 +1,16 @@
 -- Two answers to `corners` on the same files are the same but for chains and arcs.
-use Rattle.std.proofs.Common.{◌≡◌, ◌≤◌, ◌+◌, ◌-◌, ◌*◌, ℕ, suc, List, [], ◌∷◌, ◌++◌, length, map, drop, replicate, flat_map, refl, sym, ap, ◌∙◌, subst, arith, length-drop}
-use Rattle.std.proofs.Math.Nat.{suc-mul}
-use Rattle.std.specs.List.{AllZip}
-use Rattle.std.proofs.lemmas.List.{length-append, length-map, length-replicate}
-use Rattle.std.proofs.lemmas.Slice.Zip.{AllZip-long}
+use Rattle.std.proofs.Common.{◌≡◌, ◌≤◌, ◌*◌, ℕ, suc, List, [], ◌∷◌, length, drop, flat_map, refl, sym, ap, ◌∙◌, subst, arith}
 use Rattle.mintc_text.specs.Limits.{AreLimits}
 use Rattle.mintc_text.specs.declared.limits.Most.{Most}
 use Rattle.mintc_text.specs.declared.limits.TheConstants.{MOST_ELEMENTS}
-use Rattle.mintc_text.specs.declared.refusals.Role.TheVariants as role
-use Rattle.mintc_timing.specs.declared.parts.Element.{Element}
 use Rattle.mintc_timing.specs.Design.{Design, Timing, element_count}
-use Rattle.mintc_timing.specs.Numbers.{unnumbered}
 use Rattle.mintc_paths.specs.Existing.{AcceptedDesignsHaveSystems}
 use Rattle.mintc_build.specs.Laws.{CornersDifferInNumbers}
 use Rattle.mintc_corners.specs.Joint.{AreCorners}
 use Rattle.mintc_corners.specs.Laws.{AreSystems}
 use Rattle.mintc_command_answers.specs.Answers.{IsContentAnswer, IsDefined}
 use Rattle.mintc_command_answers.specs.Commands.{roles_of}
-use Rattle.mintc_command_answers.specs.Corners.{AreGiven, corners_of, elements_together, files_with}
+use Rattle.mintc_command_answers.specs.Corners.{AreGiven, corners_of, elements_together}
 use Rattle.mintc_command_answers.specs.Laws.{RefusalsAreDetermined, StatusesAreDetermined}
 use Rattle.mintc_command_answers.specs.Optima.{JointOptimaAreDetermined}
 use Rattle.mintc_command_answers.specs.Sources.{Gives}
@@ -28,6 +21,7 @@ use Rattle.mintc_command_answers.specs.declared.status.Status.TheVariants.{Done,
 use Rattle.mintc_answer_laws.specs.Corners.{AreSameCorners, CornerAnswersAreTheSame, DifferInJointChains}
 use Rattle.mintc_answer_laws.proofs.AlikeLaws.{AllAlike, alike_long, optimum_of_alike}
 use Rattle.mintc_answer_laws.proofs.CornerLaws.{corner_refusals_lem}
+use Rattle.mintc_answer_laws.proofs.SharedCornerLaws.{all_elements, are_corners, as_many}
 use Rattle.mintc_answer_laws.proofs.GivenLaws.{AreSourceLaws, given_alike}
 use Rattle.mintc_answer_laws.proofs.OrderLaws.{timing_of}
 
@@ -37,27 +31,6 @@ pub record AreJointLaws : Type 0 where
   pub systems : AcceptedDesignsHaveSystems
   pub numbers : CornersDifferInNumbers
   pub optima : JointOptimaAreDetermined
-
--- Corners have as many elements each, since they differ in numbers alone.
-rest_elements : (t : Timing) (ts : List Timing) → AreCorners (t ∷ ts) → length (flat_map (λ (u : Timing). u.flat.elements) ts) ≡ length ts * element_count t.flat
-rest_elements t [] corners = omega arith
-rest_elements t (u ∷ ts) corners =
-    let own : length u.flat.elements ≡ element_count t.flat =
-    sym (length-map u.flat.elements unnumbered) ∙ ap (λ (es : List Element). length es) corners.0.elements ∙ length-map t.flat.elements unnumbered in
-    let rest = rest_elements t ts corners.1 in
-    let count : length (u.flat.elements ++ flat_map (λ (x : Timing). x.flat.elements) ts) ≡ length u.flat.elements + length (flat_map (λ (x : Timing). x.flat.elements) ts) =
-    length-append u.flat.elements (flat_map (λ (x : Timing). x.flat.elements) ts) in
-    let product : suc (length ts) * element_count t.flat ≡ length ts * element_count t.flat + element_count t.flat = suc-mul (length ts) (element_count t.flat) in
-    omega (arith, own, rest, count, product)
-
-all_elements : (ts : List Timing) → AreCorners ts → length (flat_map (λ (u : Timing). u.flat.elements) ts) ≡ elements_together ts
-all_elements [] corners = absurd corners
-all_elements (t ∷ ts) corners =
-    let count : length (t.flat.elements ++ flat_map (λ (x : Timing). x.flat.elements) ts) ≡ length t.flat.elements + length (flat_map (λ (x : Timing). x.flat.elements) ts) =
-    length-append t.flat.elements (flat_map (λ (x : Timing). x.flat.elements) ts) in
-    let rest = rest_elements t ts corners in
-    let product : suc (length ts) * element_count t.flat ≡ length ts * element_count t.flat + element_count t.flat = suc-mul (length ts) (element_count t.flat) in
-    omega (arith, rest, count, product)
 
 together_alike : (ts us : List Timing) → AllAlike ts us → elements_together ts ≡ elements_together us
 together_alike [] [] all = refl
@@ -88,34 +61,13 @@ module _ (law : AreJointLaws) (most : Most) (limits : AreLimits most) where
   all_alike (files ∷ corners) (t ∷ ts) [] a b = absurd b
   all_alike (files ∷ corners) (t ∷ ts) (u ∷ us) a b = (given_alike law.sources most Files files t u a.0 b.0, all_alike corners ts us a.1 b.1)
 
-  -- Corners differ in numbers alone.
-  differ : (texts : List (List ℕ)) (d : List ℕ) (delays : List (List ℕ)) (t : Timing) (ts : List Timing) → Gives most Files (files_with texts d) t → AreGiven most (map (files_with texts) delays) ts →
-      AreCorners (t ∷ ts)
-  differ texts d [] t [] gives given = tt
-  differ texts d [] t (u ∷ us) gives given = absurd given
-  differ texts d (e ∷ delays) t [] gives given = tt
-  differ texts d (e ∷ delays) t (u ∷ ts) gives given = (law.numbers most _ _ _ _ _ t.flat u.flat gives.design given.0.design, differ texts d delays t ts gives given.1)
-
-  are_corners : (texts delays : List (List ℕ)) (ts : List Timing) → 1 ≤ length ts → AreGiven most (map (files_with texts) delays) ts → AreCorners ts
-  are_corners texts delays [] some given = absurd (omega (arith, some))
-  are_corners texts [] (t ∷ ts) some given = absurd given
-  are_corners texts (d ∷ delays) (t ∷ ts) some given = differ texts d delays t ts given.0 given.1
-
-  as_many : (texts : List (List ℕ)) (count : ℕ) (ts : List Timing) → length texts ≡ length (roles_of (Corners count)) → AreGiven most (corners_of texts) ts → length ts ≡ count
-  as_many texts count ts many given =
-      let roles : length (replicate count role.Delays) ≡ count = length-replicate count role.Delays in
-      let all : length texts ≡ suc (suc (suc (length (replicate count role.Delays)))) = many in
-      let rest : length (drop 3 texts) ≡ length texts - 3 = length-drop 3 texts in
-      let same = AllZip-long (Gives most Files) (corners_of texts) ts given ∙ length-map (drop 3 texts) (files_with texts) in
-      omega (arith, roles, all, rest, same)
-
   content_same : (count : ℕ) (texts : List (List ℕ)) (status : Status) (text another : List ℕ) → length texts ≡ length (roles_of (Corners count)) → 2 ≤ count → count ≤ 4 →
       IsContentAnswer most (Corners count) texts status text → IsContentAnswer most (Corners count) texts status another → DifferInJointChains text another
   content_same count texts status text another many some few (ts, given, together, (c, is, e, w)) (us, given_too, together_too, (d, is_too, f, v)) =
       let systems = systems_given (corners_of texts) ts given in
       let vs = systems.0 in
-      let long : length vs ≡ count = as_many texts count vs many systems.1 in
-      let corners : AreCorners vs = are_corners texts (drop 3 texts) vs (omega (arith, long, some)) systems.1 in
+      let long : length vs ≡ count = as_many most texts count vs many systems.1 in
+      let corners : AreCorners vs = are_corners law.numbers most texts (drop 3 texts) vs (omega (arith, long, some)) systems.1 in
       let first = all_alike (corners_of texts) ts vs given systems.1 in
       let second = all_alike (corners_of texts) us vs given_too systems.1 in
       let same = together_alike ts vs first in

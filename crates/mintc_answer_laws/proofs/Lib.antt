@@ -1,3 +1,4 @@
+pub mod SharedCornerLaws
 mod OrderLaws
 mod GivenLaws
 mod JobLaws

@@ -10,28 +10,27 @@ use Rattle.mintc_timing.specs.Departures.{AreEarly, AreExact, AreExactEarly, Are
 use Rattle.mintc_timing.specs.Design.{Design, Timing, no_pair}
 use Rattle.mintc_timing.specs.Right.{IsRight, IsLeastCycle, IsHopeless}
 use Rattle.mintc_timing.specs.Violations.{AreViolations, HasLoop, IsLoop}
-use Rattle.mintc_fraction.specs.Ratio.{Ratio}
 use Rattle.mintc_certificate.specs.declared.certificate.Certificate.{Certificate}
 use Rattle.mintc_certificate.specs.declared.certificate.Certificate.TheVariants as certificate
 use Rattle.mintc_certificate.specs.declared.members.Member.{Member}
 use Rattle.mintc_certificate.specs.declared.members.Member.TheVariants as member
 use Rattle.mintc_certificate.specs.Optimal.{IsOptimal}
-use Rattle.mintc_certificate.specs.Valid.{IsMember, IsRing, IsValid, Passes, Test, counts, clock, bounds, departures, setups, ring, sums, chain_of}
+use Rattle.mintc_certificate.specs.Valid.{IsMember, IsRing, IsValid, Passes, Test, counts, clock, bounds, departures, setups, ring, sums}
 use Rattle.mintc_checker.specs.declared.verdict.Verdict.{Verdict}
 use Rattle.mintc_checker.specs.declared.verdict.Verdict.TheVariants as verdict
-use Rattle.mintc_checker.specs.Verdicts.{FailsFirst, IsVerdict}
-use Rattle.mintc_optimise.specs.Optimum.{HasEarliest, HasSimple, IsSimple}
+use Rattle.mintc_checker.specs.Verdicts.{IsVerdict}
+use Rattle.mintc_optimise.specs.Optimum.{HasEarliest, HasSimple}
 use Rattle.mintc_report.specs.Answers.{IsFailText}
-use Rattle.mintc_report.specs.Summaries.{IsSummaryText, IsLeastSummary}
+use Rattle.mintc_report.specs.Summaries.{IsSummaryText}
 use Rattle.mintc_safe.specs.declared.certificate.SafeCertificate.{SafeCertificate}
 use Rattle.mintc_safe.specs.declared.certificate.SafeCertificate.TheVariants as kept
 use Rattle.mintc_safe.specs.declared.members.SafeMember.{SafeMember}
 use Rattle.mintc_safe.specs.declared.members.SafeMember.TheVariants as safe
 use Rattle.mintc_safe.specs.Hold.{IsHopelessForHold, IsSafe, IsSafeCycle}
-use Rattle.mintc_safe.specs.SafeOptimum.{HasSafeEarliest, HasSafeSimple, IsSafeMember, IsSafeOptimal, IsSafeOptimum, IsSafeRing, IsSafeValid}
+use Rattle.mintc_safe.specs.SafeOptimum.{HasSafeEarliest, IsSafeMember, IsSafeOptimal, IsSafeOptimum, IsSafeRing, IsSafeValid}
 use Rattle.mintc_slack.specs.declared.finding.Slacks.{Slacks}
 use Rattle.mintc_slack.specs.declared.finding.Slacks.TheVariants as slacks
-use Rattle.mintc_slack.specs.Answers.{HasSlacks, IsSlackAnswer}
+use Rattle.mintc_slack.specs.Answers.{IsSlackAnswer}
 use Rattle.mintc_slack.specs.Raised.{raised, raised_pair}
 use Rattle.mintc_slack.specs.Slack.{AreSlacks, IsSlack, IsSlower}
 use Rattle.mintc_slack.specs.SlackText.{slack_lines}

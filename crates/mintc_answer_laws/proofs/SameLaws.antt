@@ -1,13 +1,12 @@
 -- Two answers to a command on the same files are the same but for what is free.
 use Rattle.std.proofs.Common.{◌≡◌, ℕ, List, sym, subst}
 use Rattle.mintc_text.specs.declared.limits.Most.{Most}
-use Rattle.mintc_timing.specs.Design.{Timing}
 use Rattle.mintc_report.specs.Laws.{AnswersAreDetermined}
-use Rattle.mintc_command_answers.specs.Answers.{IsAnswerOn, IsContentAnswer, IsDefined}
-use Rattle.mintc_command_answers.specs.Contents.{contents_of, sample_texts}
+use Rattle.mintc_command_answers.specs.Answers.{IsContentAnswer, IsDefined}
+use Rattle.mintc_command_answers.specs.Contents.{sample_texts}
 use Rattle.mintc_command_answers.specs.Laws.{RefusalsAreDetermined, StatusesAreDetermined}
 use Rattle.mintc_command_answers.specs.Optima.{OptimaAreDetermined}
-use Rattle.mintc_command_answers.specs.Sources.{Gives, own_file}
+use Rattle.mintc_command_answers.specs.Sources.{own_file}
 use Rattle.mintc_command_answers.specs.declared.command.Command.TheVariants.{OfDesign, Sample}
 use Rattle.mintc_command_answers.specs.declared.command.Job.{Job}
 use Rattle.mintc_command_answers.specs.declared.command.Source.{Source}

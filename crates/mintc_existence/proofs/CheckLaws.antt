@@ -1,5 +1,5 @@
 -- On a design and a file `check` has an answer, or the file is refused.
-use Rattle.std.proofs.Common.{◌≡◌, ◌≢◌, ℕ, ℤ, pos, ◌≤ℤ◌, List, [], ◌∷◌, ◌++◌, length, refl, sym, subst, ◌⊎◌, inl, inr, ⊎_elim}
+use Rattle.std.proofs.Common.{◌≡◌, ◌≢◌, ℕ, pos, ◌≤ℤ◌, List, [], ◌∷◌, ◌++◌, length, refl, sym, inl, inr, ⊎_elim}
 use Rattle.std.proofs.lemmas.Bool.{cases_eq}
 use Rattle.mintc_text.specs.declared.limits.Most.{Most}
 use Rattle.mintc_text.specs.declared.refusals.Refusal.TheVariants as refusal
@@ -13,7 +13,7 @@ use Rattle.mintc_timing.specs.Violations.{AreViolations}
 use Rattle.mintc_timing_text.specs.Texts.{IsScheduleFault, IsScheduleText}
 use Rattle.mintc_timing_text.specs.TextLaws.{HaveScheduleOrFault, ScheduleTextsAreTheirLines}
 use Rattle.mintc_departure_laws.specs.Existence.{SchedulesHaveViolations}
-use Rattle.mintc_command_answers.specs.Jobs.{IsJudgement, IsScheduleOf, out_of_form, other_phases}
+use Rattle.mintc_command_answers.specs.Jobs.{IsJudgement, out_of_form, other_phases}
 use Rattle.mintc_command_answers.specs.declared.command.Job.TheVariants.{Check}
 use Rattle.mintc_command_answers.specs.declared.status.Status.{Status}
 use Rattle.mintc_command_answers.specs.declared.status.Status.TheVariants.{Done, Found, Refused}

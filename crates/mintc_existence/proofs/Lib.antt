@@ -1,7 +1,9 @@
-mod LowestLaws
 mod TextLaws
 mod CheckLaws
 mod Deciding
 mod VerdictLaws
+mod OptimumLaws
 mod TableLaws
+mod FilesLaws
 mod CommandLaws
+mod CornerLaws

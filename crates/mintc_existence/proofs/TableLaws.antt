@@ -1,5 +1,5 @@
 -- A table gives a timing, or is refused.
-use Rattle.std.proofs.Common.{◌≡◌, ◌≤◌, ◌+◌, ℕ, zero, suc, List, [], ◌∷◌, ◌++◌, length, length-append, Bool, true, false, cond, Some, None, find, nat_lt, min, refl, sym, subst, inl, inr, ◌⊎◌, ⊎_elim, arith}
+use Rattle.std.proofs.Common.{◌≡◌, ◌≤◌, ◌+◌, ℕ, zero, suc, List, [], ◌∷◌, length, length-append, Bool, true, false, cond, Some, None, find, nat_lt, min, refl, sym, subst, inl, inr, ⊎_elim, arith}
 use Rattle.std.specs.Option.{option_map}
 use Rattle.std.specs.List.{All}
 use Rattle.std.proofs.lemmas.Bool.Decides.{nat_tests}
@@ -21,9 +21,10 @@ use Rattle.mintc_timing_text.specs.TextLaws.{HaveDesignOrRefusal}
 use Rattle.mintc_timing_text.proofs.SharedTextLaws.{along}
 use Rattle.mintc_build.specs.Designs.{HasSystem, IsDesignRefusal}
 use Rattle.mintc_build.specs.Laws.{DesignsHaveSystemsOrRefusals}
-use Rattle.mintc_command_answers.specs.Sources.{Gives, IsSourceRefused, no_design, no_system, file_at}
+use Rattle.mintc_command_answers.specs.Sources.{Describes, no_design, no_system, file_at}
+use Rattle.mintc_command_answers.specs.declared.command.Source.{Source}
 use Rattle.mintc_command_answers.specs.declared.command.Source.TheVariants.{Table}
-use Rattle.mintc_existence.specs.Commands.{TablesHaveTimings}
+use Rattle.mintc_existence.specs.Commands.{HasTiming, TablesHaveTimings}
 
 -- ---- what a table says is in range
 
@@ -117,10 +118,8 @@ module _ (most : Most) (limits : AreLimits most) (design : Design) (parts : HasP
 
 -- ---- the timing of a design, or its refusal
 
-given : DesignsHaveSystemsOrRefusals → SystemsAreAccepted → (most : Most) → AreLimits most → (files : List (List ℕ)) (design : Design) → IsTableText (file_at files 0) design → limit_of most design ≡ None →
-    ((t : Timing) × Gives most Table files t) ⊎ ((refused : Refusal) × IsSourceRefused most Table files refused)
-given systems accepted most limits files design text none =
-    let parts = parts_of (file_at files 0) design text in
+pub given : DesignsHaveSystemsOrRefusals → SystemsAreAccepted → (most : Most) → AreLimits most → (source : Source) (files : List (List ℕ)) (design : Design) → Describes most source files design → HasParts design → limit_of most design ≡ None → HasTiming most source files
+given systems accepted most limits source files design text parts none =
     let inside = within most limits design parts none in
     let is = is_design most limits design parts none in
     ⊎_elim
@@ -128,13 +127,14 @@ given systems accepted most limits files design text none =
     let pairs = some.1.0 in
     let timing = some.1.1 in
     let t : Timing = record { flat = design; order = some.0; pairs = pairs } in
-    inl (t, record { design = text; accepted = accepted most design some.0 pairs is inside timing some.1.2; pairs = timing.extremes }))
+    inl (t, record { design = text; accepted = accepted most design some.0 pairs is inside timing some.1.2; pairs = timing.extremes }, timing))
     (λ (stop : (refused : Refusal) × IsDesignRefusal most design refused). inr (stop.0, no_system design text is inside stop.1))
     (systems most limits design)
 
 pub tables_have_timings_lem : DesignsHaveSystemsOrRefusals → SystemsAreAccepted → HaveDesignOrRefusal → TablesHaveTimings
 tables_have_timings_lem systems accepted read most limits files =
     ⊎_elim
-    (λ (some : (d : Design) × IsTableText (file_at files 0) d × (limit_of most d ≡ None)). given systems accepted most limits files some.0 some.1 some.2)
+    (λ (some : (d : Design) × IsTableText (file_at files 0) d × (limit_of most d ≡ None)).
+    given systems accepted most limits Table files some.0 some.1 (parts_of (file_at files 0) some.0 some.1) some.2)
     (λ (stop : (r : Refusal) × IsTableRefusal most (file_at files 0) r). inr (stop.0, no_design stop.1))
     (read most (file_at files 0))

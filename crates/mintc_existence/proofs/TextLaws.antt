@@ -1,16 +1,25 @@
 -- Passes and fails have texts, since each number has a word.
-use Rattle.std.proofs.Common.{◌≡◌, ℕ, ℤ, pos, ◌≤ℤ◌, List, [], ◌∷◌, ◌++◌, refl}
+use Rattle.std.proofs.Common.{ℕ, ◌-◌, ℤ, pos, ◌≤ℤ◌, List, [], ◌∷◌, ◌++◌, refl}
 use Rattle.std.specs.Prelude.{codes, flat_map, slice_index_or}
 use Rattle.std.specs.List.{AllZip, range_with_len}
 use Rattle.mintc_text.specs.Lines.{ended, text_of, words, fraction_word}
-use Rattle.mintc_timing.specs.declared.clocking.Schedule.{Schedule}
+use Rattle.mintc_fraction.specs.Ratio.{over}
+use Rattle.mintc_fraction_laws.proofs.SharedReducing.{fractions_reduce_lem}
 use Rattle.mintc_timing.specs.declared.parts.Pair.{Pair}
 use Rattle.mintc_timing.specs.declared.violation.Violation.{Violation}
+use Rattle.mintc_timing.specs.Clocking.{start_of, width_of}
 use Rattle.mintc_timing.specs.Departures.{departure}
-use Rattle.mintc_timing.specs.Design.{Design, Timing, element_count, no_element}
-use Rattle.mintc_report.specs.Answers.{AreViolationLines, IsFailText, IsLineOfTwo, IsPassText, IsWordOf, broken_words, element_line, reach_lines, ring_of}
-use Rattle.mintc_existence.specs.Answers.{FailsHaveTexts, PassesHaveTexts}
-use Rattle.mintc_existence.proofs.LowestLaws.{fractions_have_lowest_terms_lem}
+use Rattle.mintc_timing.specs.Design.{element_count, no_element, phase_count}
+use Rattle.mintc_certificate.specs.declared.certificate.Certificate.TheVariants.{Least, Never}
+use Rattle.mintc_report.specs.Answers.{AreViolationLines, IsLineOfTwo, IsWordOf, broken_words, element_line, reach_lines, ring_of}
+use Rattle.mintc_report.specs.Reports.{IsLateLine, chain_lines, cycle_line, late_line, phase_line}
+use Rattle.mintc_report.specs.Summaries.{count_lines}
+use Rattle.mintc_existence.specs.Answers.{FailsHaveTexts, FractionsHaveLowestTerms, PassesHaveTexts, ReportsHaveTexts, SummariesHaveTexts}
+
+pub fractions_have_lowest_terms_lem : FractionsHaveLowestTerms
+fractions_have_lowest_terms_lem num den some =
+    let lowest = fractions_reduce_lem (over num den) some in
+    (lowest.0, record { positive = lowest.1.positive; reduced = lowest.1.reduced; equal = lowest.1.equal })
 
 word_of : (num den : ℤ) → pos 1 ≤ℤ den → (word : List ℕ) × IsWordOf num den word
 word_of num den some =
@@ -49,3 +58,27 @@ pub fails_have_texts_lem : FailsHaveTexts
 fails_have_texts_lem t s violations some =
     let found = zip_some (AreViolationLines t.pairs s.den) (λ v. violation_lines t.pairs s.den v some) violations in
     (ended (codes "fail") ++ flat_map text_of found.0, record { answers = found.0; each = found.1; whole = refl })
+
+late_line_of : (den : ℤ) (name : List ℕ) (late : ℤ) → pos 1 ≤ℤ den → (line : List ℕ) × IsLateLine den name late line
+late_line_of den name late some =
+    let word = word_of late den some in
+    (late_line name word.0, record { late_word = word.0; is_late = word.1; written = refl })
+
+pub reports_have_texts_lem : ReportsHaveTexts
+reports_have_texts_lem design (Least s d chain) h =
+    let some = h.schedule_in.den.0 in
+    let cycle = word_of s.cycle s.den some in
+    let phases = zip_some (λ (p : ℕ). IsLineOfTwo (phase_line (slice_index_or design.phases (p - 1) [])) s.den (start_of s p) (width_of s p))
+    (λ p. line_of_two (phase_line (slice_index_or design.phases (p - 1) [])) s.den (start_of s p) (width_of s p) some) (range_with_len 1 (phase_count design)) in
+    let elements = zip_some (λ (l : ℕ). IsLateLine s.den (slice_index_or design.elements l no_element).name (departure d l))
+    (λ l. late_line_of s.den (slice_index_or design.elements l no_element).name (departure d l) some) (range_with_len 0 (element_count design)) in (
+      text_of (cycle_line cycle.0 ∷ phases.0 ++ elements.0 ++ chain_lines design chain),
+      record { cycle_word = cycle.0; phase_lines = phases.0; late_lines = elements.0; is_cycle = cycle.1; phases = phases.1; elements = elements.1; whole = refl },
+    )
+reports_have_texts_lem design (Never chain) h = (text_of (codes "never" ∷ chain_lines design chain), refl)
+
+pub summaries_have_texts_lem : SummariesHaveTexts
+summaries_have_texts_lem number t (Least s d chain) h =
+    let cycle = word_of s.cycle s.den h.schedule_in.den.0 in
+    (text_of (count_lines number t ++ cycle_line cycle.0 ∷ []), record { cycle_word = cycle.0; is_cycle = cycle.1; whole = refl })
+summaries_have_texts_lem number t (Never chain) h = (ended (codes "never"), refl)

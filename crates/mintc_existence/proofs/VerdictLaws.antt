@@ -1,9 +1,7 @@
 -- Each certificate has a verdict, since each of its tests passes or fails.
-use Rattle.std.proofs.Common.{◌≡◌, ◌≢◌, ℕ, suc, ◌+◌, ◌<◌, ◌≤◌, ℤ, pos, ◌+ℤ◌, ◌-ℤ◌, ◌*ℤ◌, ◌≤ℤ◌, ◌<ℤ◌, List, [], ◌∷◌, length, get_or, IsTrue, refl, sym, ◌∙◌, ◌⊎◌, inl, inr, ⊎_elim, arith}
+use Rattle.std.proofs.Common.{◌≡◌, ◌≢◌, ℕ, ◌+◌, ◌<◌, ◌≤◌, ℤ, pos, ◌+ℤ◌, ◌-ℤ◌, ◌*ℤ◌, ◌≤ℤ◌, ◌<ℤ◌, List, [], ◌∷◌, length, IsTrue, refl, inl, inr, ⊎_elim, arith}
 use Rattle.std.specs.Int.{int_max}
-use Rattle.std.specs.List.{All}
 use Rattle.mintc_graph.specs.Rings.{IsClosed, Joins}
-use Rattle.mintc_text.specs.declared.limits.Most.{Most}
 use Rattle.mintc_text.specs.declared.refusals.Refusal.{Refusal}
 use Rattle.mintc_timing.specs.declared.clocking.Schedule.{Schedule}
 use Rattle.mintc_timing.specs.declared.link.Link.{Link}
@@ -11,7 +9,7 @@ use Rattle.mintc_timing.specs.declared.parts.Bound.{Bound}
 use Rattle.mintc_timing.specs.declared.parts.TimingArc.{TimingArc}
 use Rattle.mintc_timing.specs.Clocking.{KeepsApart, KeepsBound, KeepsClock, KeepsPhase, crosses_of, end_of, feeds_of, least_width, start_of, time_of, width_of}
 use Rattle.mintc_timing.specs.Departures.{AreExact, departure, late_arrivals, late_departure}
-use Rattle.mintc_timing.specs.Design.{Design, Timing, element_at, element_count, phase_count, phase_of}
+use Rattle.mintc_timing.specs.Design.{Timing, element_at, element_count, phase_count, phase_of}
 use Rattle.mintc_timing.specs.Extremes.{greatest_of}
 use Rattle.mintc_timing.specs.Limits.{IsPhase}
 use Rattle.mintc_timing.specs.Links.{IsStuck, IsTight, cycles_of, delay_of}

@@ -7,14 +7,18 @@ use Rattle.mintc_timing.specs.declared.clocking.Schedule.{Schedule}
 use Rattle.mintc_timing.specs.declared.violation.Violation.{Violation}
 use Rattle.mintc_timing.specs.Design.{Design, Timing}
 use Rattle.mintc_timing.specs.Limits.{IsDesign}
+use Rattle.mintc_timing.specs.Order.{IsTiming}
 use Rattle.mintc_timing.specs.Paths.{ArePairs}
 use Rattle.mintc_certificate.specs.declared.certificate.Certificate.{Certificate}
+use Rattle.mintc_certificate.specs.Ranges.{IsCertificateInRange}
 use Rattle.mintc_checker.specs.declared.verdict.Verdict.{Verdict}
 use Rattle.mintc_checker.specs.Verdicts.{IsVerdict}
 use Rattle.mintc_report.specs.Answers.{IsFailText, IsLowestOf, IsPassText}
-use Rattle.mintc_command_answers.specs.Jobs.{IsFileRefused, IsJobAnswer}
+use Rattle.mintc_report.specs.Reports.{IsReportText}
+use Rattle.mintc_report.specs.Summaries.{IsSummaryText}
+use Rattle.mintc_command_answers.specs.Jobs.{IsFileRefused, IsJobAnswer, IsSummaryAnswer}
 use Rattle.mintc_command_answers.specs.declared.command.Job.{Job}
-use Rattle.mintc_command_answers.specs.declared.command.Job.TheVariants.{Check, Verify}
+use Rattle.mintc_command_answers.specs.declared.command.Job.TheVariants.{Check, Optimise, Report, Slack, Verify}
 use Rattle.mintc_command_answers.specs.declared.status.Status.{Status}
 use Rattle.mintc_command_answers.specs.declared.status.Status.TheVariants.{Refused}
 
@@ -50,3 +54,27 @@ CertificatesHaveVerdicts = (t : Timing) (c : Certificate) → (v : Verdict) × I
 -- So `verify` has an answer, or the file is refused.
 abbrev pub VerificationsHaveAnswers : Type 0
 VerificationsHaveAnswers = (most : Most) (t : Timing) (file : List ℕ) → HasAnswerOrRefusal most Verify t file
+
+-- On each system, and each file beside those of the design, a job has an answer, or the file is refused.
+abbrev pub HasAnswers : Most → Job → Type 0
+HasAnswers most job = (t : Timing) (file : List ℕ) → IsDesign t.flat → IsTiming t.flat t.order t.pairs →
+    HasAnswerOrRefusal most job t file
+
+-- A certificate that a text can say has a report in the names of each design,
+abbrev pub ReportsHaveTexts : Type 0
+ReportsHaveTexts = (design : Design) (c : Certificate) → IsCertificateInRange c →
+    (text : List ℕ) × IsReportText design c text
+
+-- and a summary under each number.
+abbrev pub SummariesHaveTexts : Type 0
+SummariesHaveTexts = (number : ℕ) (t : Timing) (c : Certificate) → IsCertificateInRange c →
+    (text : List ℕ) × IsSummaryText number t c text
+
+-- Each system has a summary under each number, of which the status isn't that of a refusal.
+abbrev pub SystemsHaveSummaries : Type 0
+SystemsHaveSummaries = (number : ℕ) (t : Timing) → IsDesign t.flat → IsTiming t.flat t.order t.pairs →
+    (status : Status) × (text : List ℕ) × (status ≢ Refused) × IsSummaryAnswer number t status text
+
+-- So `optimise`, `report` and `slack` have an answer on each system, or it has too many elements for `slack`.
+abbrev pub OptimaHaveAnswers : Type 0
+OptimaHaveAnswers = (most : Most) → HasAnswers most Optimise × HasAnswers most Report × HasAnswers most Slack

@@ -1,11 +1,19 @@
-//! What the definitions say of one another: each law is the contract of a function that does nothing of its own.
+//! What the definitions say of one another: each law is the contract of a function that only calls laws.
 ghost use Rattle.mintc_existence.specs.Answers.{CertificatesHaveVerdicts, ChecksHaveAnswers, FailsHaveTexts};
-ghost use Rattle.mintc_existence.specs.Answers.{FractionsHaveLowestTerms, PassesHaveTexts, VerificationsHaveAnswers};
-ghost use Rattle.mintc_existence.specs.Commands.{JobsAreAnswered, TablesAreAnswered, TablesHaveTimings};
+ghost use Rattle.mintc_existence.specs.Answers.{FractionsHaveLowestTerms, OptimaHaveAnswers, PassesHaveTexts};
+ghost use Rattle.mintc_existence.specs.Answers.{ReportsHaveTexts, SummariesHaveTexts, SystemsHaveSummaries};
+ghost use Rattle.mintc_existence.specs.Answers.{VerificationsHaveAnswers};
+ghost use Rattle.mintc_existence.specs.Commands.{CornersAreAnswered, FilesHaveTimings, JobsAreAnswered};
+ghost use Rattle.mintc_existence.specs.Commands.{SamplesAreAnswered, SourcesAreAnswered, TablesAreAnswered};
+ghost use Rattle.mintc_existence.specs.Commands.{TablesHaveTimings};
 
-use mintc_build::designs_have_systems_or_refusals;
+use mintc_build::{
+    corners_differ_in_numbers, designs_have_systems_or_refusals, files_have_designs_or_refusals,
+};
 use mintc_certificate::texts_have_certificates_or_refusals;
 use mintc_departure_laws::schedules_have_violations;
+use mintc_optimise_laws::optima_exist;
+use mintc_slack_laws::slacks_exist;
 use mintc_timing::systems_are_accepted;
 use mintc_timing_text::{
     schedule_texts_are_their_lines, texts_have_designs_or_refusals, texts_have_schedules_or_faults,
@@ -56,16 +64,72 @@ pub fn tables_have_timings()
     texts_have_designs_or_refusals();
 }
 
-/// A command of a job on one design is answered or refused, where its source has timings and its job has answers.
+/// A certificate that a text can say has a report in the names of each design.
+pub fn reports_have_texts()
+    ensures { ReportsHaveTexts }
+{}
+
+/// Such a certificate has a summary under each number.
+pub fn summaries_have_texts()
+    ensures { SummariesHaveTexts }
+{}
+
+/// Each system has a summary under each number.
+pub fn systems_have_summaries()
+    ensures { SystemsHaveSummaries }
+{
+    optima_exist();
+}
+
+/// `optimise`, `report` and `slack` have an answer on each system, or it has too many elements for `slack`.
+pub fn optima_have_answers()
+    ensures { OptimaHaveAnswers }
+{
+    optima_exist();
+    slacks_exist();
+}
+
+/// Four files whose designs have their parts in range give a system, or are refused.
+pub fn files_have_timings()
+    ensures { FilesHaveTimings }
+{
+    designs_have_systems_or_refusals();
+    systems_are_accepted();
+    files_have_designs_or_refusals();
+}
+
+/// A command of a job on one design is answered or refused, where its source has systems and its job has answers.
 pub fn jobs_are_answered()
     ensures { JobsAreAnswered }
 {}
 
-/// `check` and `verify` of a table are answered or refused.
+/// Each job but `safe` is answered or refused, where its source has systems.
+pub fn sources_are_answered()
+    ensures { SourcesAreAnswered }
+{
+    checks_have_answers();
+    verifications_have_answers();
+    optima_have_answers();
+}
+
+/// Each sample is answered or refused, where files have systems.
+pub fn samples_are_answered()
+    ensures { SamplesAreAnswered }
+{
+    systems_have_summaries();
+}
+
+/// Each job but `safe` of a table is answered or refused.
 pub fn tables_are_answered()
     ensures { TablesAreAnswered }
 {
     tables_have_timings();
-    checks_have_answers();
-    verifications_have_answers();
+    sources_are_answered();
+}
+
+/// `corners` is answered or refused, where files have systems and a few systems have a joint optimum.
+pub fn corners_are_answered()
+    ensures { CornersAreAnswered }
+{
+    corners_differ_in_numbers();
 }

@@ -2,4 +2,4 @@ use Rattle.mintc_existence.proofs.CommandLaws.{tables_are_answered_lem}
 use Rattle.mintc_existence.proofs.laws.tables_are_answered.Goals as goal
 
 pub returns : goal.returns
-returns c = tables_are_answered_lem c.tables_have_timings.ensures c.checks_have_answers.ensures c.verifications_have_answers.ensures
+returns c = tables_are_answered_lem c.tables_have_timings.ensures c.sources_are_answered.ensures

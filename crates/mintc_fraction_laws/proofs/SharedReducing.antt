@@ -1,24 +1,23 @@
 -- Each fraction has lowest terms: those with the least denominator that any fraction of its value has.
-use Rattle.std.proofs.Common.{◌≡◌, ℕ, zero, suc, ◌+◌, ◌<◌, ◌≤◌, ℤ, pos, negsuc, ◌+ℤ◌, ◌*ℤ◌, ◌≤ℤ◌, ◌<ℤ◌, sym, ap, ◌∙◌, subst, ◌⊎◌, inl, inr, ⊎_elim, arith}
+use Rattle.std.proofs.Common.{◌≡◌, ℕ, zero, suc, ◌+◌, ◌<◌, ◌≤◌, ℤ, pos, negsuc, ◌+ℤ◌, ◌*ℤ◌, ◌≤ℤ◌, ◌<ℤ◌, refl, sym, ap, ◌∙◌, subst, ◌⊎◌, inl, inr, ⊎_elim, arith}
 use Rattle.std.specs.Int.{int_div_euclid}
 use Rattle.std.proofs.lemmas.Bool.{cases_lt}
 use Rattle.std.proofs.lemmas.Int.{ints, by_lt_z}
 use Rattle.std.proofs.Math.Nat.{div-add-mod, mod-lt}
 use Rattle.std.proofs.Math.IntN.{*ℤ_comm, zero-*ℤ}
-use Rattle.mintc_fraction.specs.Ratio.{Ratio, over, IsLowest}
+use Rattle.mintc_fraction.specs.Ratio.{Ratio, over}
 use Rattle.mintc_fraction.proofs.SharedProducts.{times-assoc, add-times, swap-times, times-mono_positive, times-cancel_equal}
-use Rattle.mintc_report.specs.Answers.{IsLowestOf}
-use Rattle.mintc_existence.specs.Answers.{FractionsHaveLowestTerms}
+use Rattle.mintc_fraction_laws.specs.Lowest.{FractionsReduce, IsReducedTo}
 
 -- the quotient that rounds down
-div_euclid-low : (x y : ℤ) → pos 1 ≤ℤ y → (int_div_euclid x y *ℤ y) ≤ℤ x
+pub div_euclid-low : (x y : ℤ) → pos 1 ≤ℤ y → (int_div_euclid x y *ℤ y) ≤ℤ x
 div_euclid-low (pos a) (pos b) p = omega (arith, ints, div-add-mod a b)
 div_euclid-low (negsuc a) (pos b) p =
     let some : 0 < b = omega (arith, ints) in
     omega (arith, ints, div-add-mod a b, mod-lt a some)
 div_euclid-low x (negsuc b) p = absurd (omega (arith, ints))
 
-div_euclid-high : (x y : ℤ) → pos 1 ≤ℤ y → x <ℤ (int_div_euclid x y *ℤ y +ℤ y)
+pub div_euclid-high : (x y : ℤ) → pos 1 ≤ℤ y → x <ℤ (int_div_euclid x y *ℤ y +ℤ y)
 div_euclid-high (pos a) (pos b) p =
     let some : 0 < b = omega (arith, ints) in
     omega (arith, ints, div-add-mod a b, mod-lt a some)
@@ -35,7 +34,7 @@ not_above low x high p next a b c d = omega (arith, ints)
 not_below : (low x p : ℤ) → p ≡ x → low <ℤ x → p ≤ℤ low → ⊥
 not_below low x p a b c = omega (arith, ints)
 
-next_is : (q y : ℤ) → (q +ℤ pos 1) *ℤ y ≡ q *ℤ y +ℤ y
+pub next_is : (q y : ℤ) → (q +ℤ pos 1) *ℤ y ≡ q *ℤ y +ℤ y
 next_is q y = let one : pos 1 *ℤ y ≡ y = omega (arith, ints) in add-times q (pos 1) y ∙ ap (λ v. q *ℤ y +ℤ v) one
 
 -- A number is a multiple of a positive one, or it isn't.
@@ -100,21 +99,35 @@ module _ (num den : ℤ) (some : pos 1 ≤ℤ den) where
       let positive : pos 1 ≤ℤ k = omega (arith, ints) in
       not_low (negsuc f *ℤ k) (pos 0 *ℤ k) e (times-mono_positive (negsuc f) (pos 0) k (omega (arith, ints)) positive) (zero-*ℤ k) b low
 
-  lowest_of : IsLeast → (lowest : Ratio) × IsLowestOf num den lowest
-  lowest_of (e, m, low, is, none) = (
-    over m (pos e),
-    record {
-      positive = omega (arith, ints);
-      reduced = λ k more first second. factor_free e m low is none k first.0 second.0 more first.1 second.1;
-      equal = is;
-    },
-  )
+  -- It is no greater than the denominator itself, which is one of them.
+  no_more : (e d : ℕ) → pos d ≡ den → 1 ≤ d → ((f : ℕ) → 1 ≤ f → f < e → Has f → ⊥) → e ≤ d
+  no_more e d is low none =
+      ⊎_elim
+      (λ (below : d < e). absurd (none d low below (num, ap (λ (z : ℤ). num *ℤ z) (sym is))))
+      (λ (past : e ≤ d). past)
+      (cases_lt d e)
 
-start_at : (num den : ℤ) → (some : pos 1 ≤ℤ den) → IsLeast num den some
-start_at num (pos zero) some = absurd (omega (arith, ints))
-start_at num (pos (suc n)) some =
+  lowest_of : (d : ℕ) → pos d ≡ den → 1 ≤ d → IsLeast → (lowest : Ratio) × IsReducedTo (over num den) lowest
+  lowest_of d whole first (e, m, low, is, none) =
+      let few = no_more e d whole first none in (
+        over m (pos e),
+        record {
+          positive = omega (arith, ints);
+          reduced = λ k more first second. factor_free e m low is none k first.0 second.0 more first.1 second.1;
+          equal = is;
+          less = omega (arith, ints);
+        },
+      )
+
+-- The search begins at 1.
+least_of : (num : ℤ) (n : ℕ) (some : pos 1 ≤ℤ pos (suc n)) → IsLeast num (pos (suc n)) some
+least_of num n some =
     search_up num (pos (suc n)) some n 1 (ap pos (let e : 1 + n ≡ suc n = omega arith in e)) (omega arith) (λ f low lt has. absurd (omega arith))
-start_at num (negsuc n) some = absurd (omega (arith, ints))
 
-pub fractions_have_lowest_terms_lem : FractionsHaveLowestTerms
-fractions_have_lowest_terms_lem num den some = lowest_of num den some (start_at num den some)
+reduced : (num den : ℤ) → pos 1 ≤ℤ den → (lowest : Ratio) × IsReducedTo (over num den) lowest
+reduced num (pos zero) some = absurd (omega (arith, ints))
+reduced num (pos (suc n)) some = lowest_of num (pos (suc n)) some (suc n) refl (omega arith) (least_of num n some)
+reduced num (negsuc n) some = absurd (omega (arith, ints))
+
+pub fractions_reduce_lem : FractionsReduce
+fractions_reduce_lem a some = reduced a.num a.den some

@@ -1,0 +1,3 @@
+pub mod SharedSayableLaws
+pub mod SharedMemberLaws
+pub mod SharedOptimumLaws
