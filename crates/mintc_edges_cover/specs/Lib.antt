@@ -1,0 +1,3 @@
+-- What contracts of public calls and laws say:
+pub mod Cover
+pub mod Laws
