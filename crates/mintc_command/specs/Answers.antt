@@ -1,5 +1,5 @@
 -- What a run answers over the files of a shelf, and what it leaves.
-use Rattle.std.specs.Prelude.{◌≡◌, ◌≢◌, ◌≤◌, ◌+◌, ℕ, List, [], Option, Some, None, codes, All}
+use Rattle.std.specs.Prelude.{◌++◌, ◌≡◌, ◌≢◌, ◌≤◌, ◌+◌, ℕ, List, [], Option, Some, None, codes, All}
 use Rattle.std.specs.List.{AllZip}
 use Rattle.mintc_text.specs.declared.limits.Most.{Most}
 use Rattle.mintc_text.specs.Lines.{ended}
@@ -14,8 +14,9 @@ use Rattle.mintc_command_answers.specs.declared.status.Status.TheVariants.{OutOf
 
 -- the line that is written where the words are no command
 abbrev pub usage_line : List ℕ
-usage_line = ended (codes
-    "usage: mintc check|optimise|verify|report|safe|slack table|files|liberty FILE.. | mintc sample N | mintc corners V C K D D..")
+usage_line =
+    ended (codes "usage: mintc check|optimise|verify|report|safe|slack table|files|liberty FILE.. | mintc sample N | mintc "
+    ++ codes "corners V C K D D..")
 
 -- The words are those of a command that names a file.
 abbrev pub NameFile : List (List ℕ) → Type 0

@@ -11,7 +11,7 @@ mod Refusing
 mod Filling
 mod Beginning
 mod Reaching
-mod Shortness
+mod Short
 mod Tracing
 mod Pairing
 mod Marking

@@ -74,10 +74,10 @@ module _ (arcs : List TimingArc) (order : List ℕ) (k first lanes n : ℕ) (row
   alike_each = in_row IsAlike g.alike
 
 -- where no row has a sum of the lane above the limit, no bit has
-pub IsShortLane_placed : (n : ℕ) (rows : Rows) → AreRows n rows → (sums : List Sums) → length sums ≡ n → (lane : ℕ) → IsShortLane sums lane → IsShortLane (placed rows.of_bits.items sums) lane
-IsShortLane_placed n rows h sums same lane short bit below =
+pub short : (n : ℕ) (rows : Rows) → AreRows n rows → (sums : List Sums) → length sums ≡ n → (lane : ℕ) → IsShortLane sums lane → IsShortLane (placed rows.of_bits.items sums) lane
+short n rows h sums same lane is bit below =
     let inside : bit < length rows.of_bits.items = omega (arith, length-placed rows.of_bits.items sums) in
-    rw (placed_at rows.of_bits.items sums bit inside) (short (row_of rows.of_bits.items bit) (omega (arith, h.of_bits.inside bit (omega arith))))
+    rw (placed_at rows.of_bits.items sums bit inside) (is (row_of rows.of_bits.items bit) (omega (arith, h.of_bits.inside bit (omega arith))))
 
 -- rows of the bits' own numbers
 pub placed_plain : (rows : List ℕ) (sums : List Sums) → length rows ≡ length sums → ((bit : ℕ) → bit < length rows → row_of rows bit ≡ bit) → placed rows sums ≡ sums

@@ -63,7 +63,7 @@ fn first_bit(sums: &SparseRows, rows: &Rows, lane: usize) -> Option<usize>
 
 /// Refuses the first path that is too long among those from a block's elements. Where it is known that no path is,
 /// there is nothing to look for.
-#[tactic(auto, using(crate::proofs::Shortness::AreShortBefore_more, crate::proofs::Rowing::IsShortLane_placed, crate::proofs::Shortness::IsFirstLong_from_lane))]
+#[tactic(auto, using(crate::proofs::Short::more, crate::proofs::Rowing::short, crate::proofs::Short::first_long))]
 pub(crate) fn refuse_long(block: &Filled, known_short: bool) -> Result<(), Refusal>
     ghost design: { Design }
     requires few { length design.elements ≤ MOST_ELEMENTS }

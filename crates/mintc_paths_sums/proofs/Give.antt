@@ -109,8 +109,8 @@ module _ (base : ℕ) (numbers : List ℕ) (sums : List Sums) (row : ℕ) (held 
   apart_from_own : (other : ℕ) → other ≢ row → place_at given other ≢ place_at given row
   apart_from_own other ne e = omega (arith, held.below other, given_other other ne, given_own)
 
-  pub AreHeld_given : AreHeld given more
-  AreHeld_given = record {
+  pub given_all : AreHeld given more
+  given_all = record {
     none = more_kept 0 (omega (arith, held.below 0)) ∙ held.none;
     below = λ other. grind (arith, given_own, given_other other, held.below other, length-append sums (NO_SUMS ∷ []));
     apart = λ one other ne same. grind (arith, apart_from_own one, apart_from_own other, given_other one, given_other other, held.apart one other);

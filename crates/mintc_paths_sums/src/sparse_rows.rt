@@ -46,7 +46,7 @@ fn slot_of(numbers: &[u32], base: u32, row: usize) -> usize
 }
 
 /// Gives the next place to a row that has none.
-#[tactic(auto, using(crate::proofs::Give::given_kept, crate::proofs::Give::given_own, crate::proofs::Give::AreHeld_given))]
+#[tactic(auto, using(crate::proofs::Give::given_kept, crate::proofs::Give::given_own, crate::proofs::Give::given_all))]
 fn give(
     numbers: &mut Vec<u32>,
     base: u32,

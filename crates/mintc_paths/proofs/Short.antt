@@ -36,11 +36,11 @@ module _ (design : Design) (first lanes : ℕ) (sums : List Sums) (h : AreExtrem
   short_from : (end : ℕ) → end ≤ lanes → ((lane : ℕ) → lane < end → IsShortLane sums lane) → AreShortBefore design (first + end)
   short_from end few short j bit path below is = grind (arith, before j bit path, short_lane (j - first), short (j - first))
 
-  pub AreShortBefore_more : ((lane : ℕ) → lane < lanes → IsShortLane sums lane) → AreShortBefore design (first + lanes)
-  AreShortBefore_more short = short_from lanes (omega arith) short
+  pub more : ((lane : ℕ) → lane < lanes → IsShortLane sums lane) → AreShortBefore design (first + lanes)
+  more short = short_from lanes (omega arith) short
 
-  pub IsFirstLong_from_lane : (lane bit : ℕ) → first + lanes ≤ length design.elements → IsFirstLane sums lanes lane bit → IsFirstLong design (first + lane) bit
-  IsFirstLong_from_lane lane bit few g = let below = g.inside in record {
+  pub first_long : (lane bit : ℕ) → first + lanes ≤ length design.elements → IsFirstLane sums lanes lane bit → IsFirstLong design (first + lane) bit
+  first_long lane bit few g = let below = g.inside in record {
     element = omega arith;
     long = long_path design (first + lane) bit (lane_at (sums_at sums bit).greatest lane) (h.reached bit lane g.at_bit.inside g.inside) g.at_bit.long;
     first_element = λ i other path sooner is. not_long design i other path (short_from lane (omega arith) g.first i other path sooner is.0) is;
