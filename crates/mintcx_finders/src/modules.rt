@@ -1,6 +1,6 @@
 //! Instances whose cell is at fault.
 ghost use Rattle.std.specs.Prelude.{IfSome};
-ghost use Rattle.mintcx_finders.specs.Places.{IsInside};
+ghost use Rattle.mintcx_finders.specs.Places.{IsFirstToken, IsInside};
 
 use crate::found::{Class, Fault, Found, Way, found_inside, name_of};
 use crate::walk::{class_of, is_holder, module_around, range_of};
@@ -8,7 +8,9 @@ use mintc_vlex::next_token;
 use mintcx_places::Range;
 
 /// The cell of a statement of instances. None where the statement is another.
-fn cell_of(text: &[u8], statement: &Range) -> Option<Range> {
+pub(crate) fn cell_of(text: &[u8], statement: &Range) -> Option<Range>
+    ensures { IfSome result (IsFirstToken text.now statement.now) }
+{
     let first = next_token(text, statement.from)?;
     if class_of(text, &first) != Some(Class::Instance) {
         return None;
@@ -18,7 +20,8 @@ fn cell_of(text: &[u8], statement: &Range) -> Option<Range> {
 
 /// The name of the cell of a statement of instances, and the module that it stands in.
 pub fn missing_cell(text: &[u8], statement: &Range) -> Option<Found>
-    ensures { IfSome result (λ found. IsInside statement.now found.range) }
+    ensures inside { IfSome result (λ found. IsInside statement.now found.range) }
+    ensures first { IfSome result (λ found. IsFirstToken text.now statement.now found.range) }
 {
     let cell = cell_of(text, statement)?;
     let module = module_around(text, statement.from)?.name;
@@ -38,7 +41,8 @@ fn way_of(text: &[u8], module: &[u8], cell: &[u8]) -> Way {
 
 /// The name of the cell of a statement of instances in a module that has itself inside by it.
 pub fn ring(text: &[u8], statement: &Range) -> Option<Found>
-    ensures { IfSome result (λ found. IsInside statement.now found.range) }
+    ensures inside { IfSome result (λ found. IsInside statement.now found.range) }
+    ensures first { IfSome result (λ found. IsFirstToken text.now statement.now found.range) }
 {
     let cell = cell_of(text, statement)?;
     let module = module_around(text, statement.from)?.name;

@@ -1,7 +1,7 @@
 //! Names that are given twice.
-ghost use Rattle.std.specs.Prelude.{IfOk, IfSome, length};
+ghost use Rattle.std.specs.Prelude.{◌≡◌, IfOk, IfSome, length};
 ghost use Rattle.mintc_vlex.specs.Tokens.{LiesWithin};
-ghost use Rattle.mintcx_finders.specs.Places.{IsInside};
+ghost use Rattle.mintcx_finders.specs.Places.{HasEarlierName, IsInside, bare, part};
 
 use crate::found::{Class, Fault, Found, found_inside, name_of};
 use crate::walk::{class_of, module_around, next_outer, range_of};
@@ -55,7 +55,9 @@ fn again(
 }
 
 /// Where a statement gives a name.
-fn given_in(text: &[u8], first: &Token, name: &[u8]) -> Option<Range> {
+pub(crate) fn given_in(text: &[u8], first: &Token, name: &[u8]) -> Option<Range>
+    ensures { IfSome result (λ range. bare (part text.now range) ≡ name.now) }
+{
     let mut at = first.to;
     while let Some(token) = next_outer(text, at) {
         let range = range_of(&token);
@@ -68,7 +70,9 @@ fn given_in(text: &[u8], first: &Token, name: &[u8]) -> Option<Range> {
 }
 
 /// Where statements of a class give a name first, from a place on.
-fn first_given(text: &[u8], class: Class, body: usize, name: &[u8]) -> Option<Range> {
+fn first_given(text: &[u8], class: Class, body: usize, name: &[u8]) -> Option<Range>
+    ensures { IfSome result (λ range. bare (part text.now range) ≡ name.now) }
+{
     let mut from = body;
     while let Some(first) = next_token(text, from) {
         if class_of(text, &first) == Some(class) {
@@ -106,7 +110,8 @@ pub fn name_twice(
     text: &[u8],
     statement: &Range,
 ) -> Result<Option<Found>, OutOfMemory>
-    ensures { IfOk result (λ o. IfSome o (λ found. IsInside statement.now found.range)) }
+    ensures inside { IfOk result (λ o. IfSome o (λ found. IsInside statement.now found.range)) }
+    ensures name { IfOk result (λ o. IfSome o (HasEarlierName text.now)) }
 {
     let Some((class, body)) = scope_of(text, statement) else {
         return Ok(None);

@@ -1,5 +1,5 @@
 //! Tokens, names and statements one after another.
-ghost use Rattle.std.specs.Prelude.{◌≤◌, IfSome, length};
+ghost use Rattle.std.specs.Prelude.{◌≡◌, ◌≤◌, IfSome, length};
 ghost use Rattle.mintc_vlex.specs.Tokens.{LiesWithin};
 
 use crate::found::{Class, bytes_of, name_of};
@@ -32,7 +32,10 @@ pub(crate) struct Module {
 }
 
 /// The bytes of a token.
-pub(crate) fn range_of(token: &Token) -> Range {
+pub(crate) fn range_of(token: &Token) -> Range
+    ensures from { result.from ≡ token.now.from }
+    ensures to { result.to ≡ token.now.to }
+{
     Range {
         from: token.from,
         to: token.to,
@@ -113,6 +116,14 @@ pub(crate) fn next_outer(text: &[u8], from: usize) -> Option<Token>
         at = token.to;
     }
     None
+}
+
+/// The name of the module that a statement begins.
+pub(crate) fn module_name<'a>(text: &'a [u8], first: &Token) -> &'a [u8] {
+    match next_outer(text, first.to) {
+        Some(name) => name_of(text, &range_of(&name)),
+        None => b"",
+    }
 }
 
 /// The module that a statement begins, or the one that it stands in behind others.

@@ -1,12 +1,11 @@
 -- Statements directly in a Liberty library, counted from 1 as its reader does.
-use Rattle.std.specs.Prelude.{◌≡◌, ℕ, ◌+◌, ◌⊎◌, List, [], ◌∷◌, Option, Some, None, drop}
+use Rattle.std.specs.Prelude.{◌≡◌, ℕ, ◌+◌, ◌⊎◌, List, [], ◌∷◌, Option, Some, None, drop, length}
 use Rattle.std.specs.Option.{option_and_then}
 use Rattle.mintc_liberty_tokens.specs.Tokens.{Token, right, is_item, tokens_of, word_at, past, after_opening}
 use Rattle.mintc_liberty_tokens.specs.Tokens.{after_closing, after_left}
 use Rattle.mintc_liberty_tokens.specs.Reading.{statement_rest}
 use Rattle.mintcx_places.specs.declared.lines.Range.{Range}
 use Rattle.mintcx_places.specs.declared.library.TheConstants.{MOST_OPEN}
-use Rattle.mintcx_places.specs.Lines.{IsRest}
 use Rattle.mintcx_places.specs.Turns.{after_turns}
 
 -- what stands behind `( item ) {`
@@ -32,13 +31,20 @@ more [] = None
 more (right ∷ ts) = None
 more (t ∷ ts) = Some (t ∷ ts)
 
--- The statement behind so many others begins at a range, which ends with its line: the tokens from its first byte on
--- are those that are left behind the others.
+-- The end of a range is that of a statement, given the tokens from its first one on: what is left behind the statement
+-- begins there; or the statement is out of form, and the text ends there.
+abbrev pub EndsStatement : List ℕ → List Token → Range → Type 0
+EndsStatement text ts range =
+    (statement_rest MOST_OPEN ts ≡ Some (tokens_of (drop range.to text)))
+    ⊎ ((statement_rest MOST_OPEN ts ≡ None) × (range.to ≡ length text))
+
+-- The statement behind so many others stands at a range: the tokens from its first byte on are those that are left
+-- behind the others.
 pub record IsBehindStatements (text : List ℕ) (before : ℕ) (range : Range) : Type 0 where
   pub left : option_and_then more (left_behind text before) ≡ Some (tokens_of (drop range.from text))
-  pub to : IsRest text range
+  pub to : EndsStatement text (tokens_of (drop range.from text)) range
 
--- the statement of a number begins at a range
+-- the statement of a number stands at a range
 abbrev pub IsLibraryStatement : List ℕ → ℕ → Range → Type 0
 IsLibraryStatement text number range = (before : ℕ) × (number ≡ before + 1) × IsBehindStatements text before range
 

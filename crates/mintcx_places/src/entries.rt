@@ -1,6 +1,7 @@
 //! Entries of delays.
 ghost use Rattle.std.specs.Prelude.{◌≡◌, ◌≤◌, ◌<◌, Some, None, IfNone, IfSome, MatchBool, length};
 ghost use Rattle.mintc_sdf_tokens.specs.Reading.{after_opening};
+ghost use Rattle.mintc_sdf_tokens.specs.Tokens.{tokens_of};
 ghost use Rattle.mintc_sdf_tokens.specs.Scans.{IsAhead};
 ghost use Rattle.mintcx_places.specs.Entries.{HasNoEntry, IsEntry, IsList, behind_entries, behind_entry};
 ghost use Rattle.mintcx_places.specs.Entries.{behind_head, left_behind};
@@ -69,6 +70,17 @@ fn list_range(text: &[u8], scanner: &mut Scanner<'_>) -> Option<Range>
         Some(end) => Some(Range { from, to: end + 1 }),
         None => Some(rest_of_line(text, from)),
     }
+}
+
+/// The bytes of the list that delays are, from its parenthesis to the one that closes it, or to the end of its first
+/// line where it isn't closed. None where a text begins with another token.
+pub fn delays_range(text: &[u8]) -> Option<Range>
+    ensures list { IfSome result (IsList text.now (tokens_of text.now)) }
+    ensures within { IfSome result (λ range. (range.from ≤ range.to) × (range.to ≤ length text.now)) }
+    ensures none { IfNone result (after_opening (tokens_of text.now) ≡ None) }
+{
+    let mut scanner = Scanner::new(text);
+    list_range(text, &mut scanner)
 }
 
 /// The bytes of an entry, by its number.

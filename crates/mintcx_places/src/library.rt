@@ -4,9 +4,10 @@ ghost use Rattle.std.specs.Option.{option_and_then};
 ghost use Rattle.mintc_liberty_tokens.specs.Tokens.{tokens_of};
 ghost use Rattle.mintc_liberty_tokens.specs.Scans.{IsAhead};
 ghost use Rattle.mintcx_places.specs.Library.{HasNoLibraryStatement, IsLibraryStatement, behind_head, behind_name};
-ghost use Rattle.mintcx_places.specs.Library.{behind_statements, left_behind, more};
+ghost use Rattle.mintcx_places.specs.Library.{EndsStatement, behind_statements, left_behind};
+ghost use Rattle.mintcx_places.specs.Library.{more};
 
-use crate::lines::{Range, rest_of_line};
+use crate::lines::Range;
 use mintc_liberty_tokens::{Kind, Scanner, statements};
 
 /// How deep groups nest in the library, which is the first of 64.
@@ -74,7 +75,29 @@ fn has_more(scanner: &Scanner<'_>) -> bool
     !matches!(scanner.kind(), Kind::End | Kind::Right)
 }
 
-/// The first line of a statement, by its number.
+/// The bytes of the statement that comes next, up to the token behind it, or to the end where it is out of form.
+fn next_range(text: &[u8], begun: Scanner<'_>) -> Range
+    requires { begun.text ≡ text.now }
+    ensures from { tokens_of (drop result.from text.now) ≡ begun.entry.tokens }
+    ensures to { EndsStatement text.now begun.entry.tokens result }
+    ensures order { result.from ≤ result.to }
+    ensures within { result.to ≤ length text.now }
+{
+    let mut scanner = begun;
+    let from = scanner.place();
+    if statements::statement(&mut scanner, MOST_OPEN) {
+        return Range {
+            from,
+            to: scanner.place(),
+        };
+    }
+    Range {
+        from,
+        to: text.len(),
+    }
+}
+
+/// The bytes of a statement, by its number.
 fn range_of(text: &[u8], number: u32) -> Option<Range>
     requires { 0 < number }
     ensures statement { IfSome result (IsLibraryStatement text.now number) }
@@ -82,14 +105,14 @@ fn range_of(text: &[u8], number: u32) -> Option<Range>
     ensures none { IfNone result (HasNoLibraryStatement text.now number) }
 {
     match scanner_behind(text, number - 1) {
-        Some(scanner) if has_more(&scanner) => Some(rest_of_line(text, scanner.place())),
+        Some(scanner) if has_more(&scanner) => Some(next_range(text, scanner)),
         _ => None,
     }
 }
 
-/// The first line of a statement directly in a Liberty library, from the statement's first token on, by its number from
-/// 1 on as the library's reader counts. None where there are fewer. A statement that is out of form is there too, and
-/// ends the count.
+/// The bytes of a statement directly in a Liberty library, from its first token to the one behind it, by its number
+/// from 1 on as the library's reader counts. None where there are fewer. A statement that is out of form is there too,
+/// goes on to the end of the text, and ends the count.
 pub fn library_statement_range(text: &[u8], number: u32) -> Option<Range>
     ensures statement { IfSome result (IsLibraryStatement text.now number) }
     ensures within { IfSome result (λ range. (range.from ≤ range.to) × (range.to ≤ length text.now)) }

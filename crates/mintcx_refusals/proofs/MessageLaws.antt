@@ -7,6 +7,8 @@ use Rattle.mintcx_places.specs.declared.lines.Spot.{Spot}
 use Rattle.mintcx_refusals.specs.declared.places.Place.{Place}
 use Rattle.mintcx_refusals.specs.Messages.{IsExcerptAt, IsExcerptOf, IsSpotAt, IsSpotOf}
 use Rattle.mintcx_refusals.specs.Places.{HasNoPlace, IsPlace}
+use Rattle.mintcx_refusals.specs.declared.parts.Marked.{Marked}
+use Rattle.mintcx_refusals.specs.Parts.{IsMarkedAt, IsMarkedOf}
 use Rattle.mintcx_refusals.proofs.WrittenLaws.{in_two, in_three, in_four, in_five}
 
 -- the excerpt of the place of a refusal is that of the refusal
@@ -21,6 +23,13 @@ pub spot_is : (file : List ℕ) (refused : Refusal) (place : Option Place) (spot
 spot_is file refused None spot some none is = let P : Option Spot → Type 0 = IsSpotOf file refused in subst P (sym is) none
 spot_is file refused (Some place) spot some none is =
     let P : Option Spot → Type 0 = IsSpotOf file refused in subst P (sym is.1) (place, some, is.2)
+
+-- what is marked of the place of a refusal is that of the refusal
+pub marked_is : (file : List ℕ) (refused : Refusal) (place : Option Place) (marked : Option Marked) → IfSome place (IsPlace file refused) →
+    IfNone place (HasNoPlace file refused) → IsMarkedAt file place marked → IsMarkedOf file refused marked
+marked_is file refused None marked some none is = let P : Option Marked → Type 0 = IsMarkedOf file refused in subst P (sym is) none
+marked_is file refused (Some place) marked some none is =
+    let P : Option Marked → Type 0 = IsMarkedOf file refused in subst P (sym is.1) (place, some, is.2)
 
 -- four parts from the start, and two
 pub made : {z a b c new : List ℕ} (p q r s : List ℕ) → z ≡ [] → a ≡ z ++ p → b ≡ a ++ q → c ≡ b ++ r → new ≡ c ++ s → new ≡ p ++ q ++ r ++ s

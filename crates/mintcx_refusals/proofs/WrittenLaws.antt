@@ -1,8 +1,8 @@
 -- What is written in parts: each part stands behind what is written before it.
-use Rattle.std.proofs.Common.{◌≡◌, ◌==◌, ◌∙◌, ap, false, List, [], ◌∷◌, ℕ, ◌++◌, decimal, length, append_assoc}
+use Rattle.std.proofs.Common.{◌≡◌, ◌==◌, ◌∙◌, ap, false, List, [], ◌∷◌, ℕ, ◌++◌, length, append_assoc}
 use Rattle.std.specs.Prelude.{codes, replicate}
 use Rattle.mintcx_places.specs.declared.excerpts.Excerpt.{Excerpt}
-use Rattle.mintcx_refusals.specs.Messages.{arrow_text, excerpt_text, file_text, line_text, margin, marks_text, short_file}
+use Rattle.mintcx_refusals.specs.Messages.{arrow_text, excerpt_text, file_text, line_text, marks_text, padded, short_file}
 
 -- two parts
 pub in_two : {a new : List ℕ} (old p q : List ℕ) → a ≡ old ++ p → new ≡ a ++ q → new ≡ old ++ (p ++ q)
@@ -35,13 +35,10 @@ pub short_written : {a new : List ℕ} (old name : List ℕ) → (length name ==
 short_written old [] some e f = cc
 short_written old (x ∷ name) some e f = in_two old (x ∷ name) (codes ": ") e f
 
--- an excerpt, behind whose margin stands the number of its line
-pub excerpt_written : {a b new : List ℕ} (old name label : List ℕ) (e : Excerpt) (number : List ℕ) (width : ℕ) → number ≡ decimal e.spot.line → width ≡ length number →
+-- an excerpt
+pub excerpt_written : {a b new : List ℕ} (old name label : List ℕ) (e : Excerpt) (number : List ℕ) (width : ℕ) → number ≡ padded width e.spot.line →
     a ≡ old ++ arrow_text (replicate width 32) name e.spot → b ≡ a ++ line_text number e.line →
-    new ≡ b ++ marks_text (replicate width 32) e.caret e.marks label → new ≡ old ++ excerpt_text name e label
-excerpt_written {a} {b} old name label e number width number_is width_is f g h =
-    let same : replicate width 32 ≡ margin e.spot.line = ap (λ n. replicate n 32) (width_is ∙ ap length number_is) in
-    in_three old (arrow_text (margin e.spot.line) name e.spot) (line_text (decimal e.spot.line) e.line) (marks_text (margin e.spot.line) e.caret e.marks label)
-    (f ∙ ap (λ m. old ++ arrow_text m name e.spot) same)
-    (g ∙ ap (λ n. a ++ line_text n e.line) number_is)
-    (h ∙ ap (λ m. b ++ marks_text m e.caret e.marks label) same)
+    new ≡ b ++ marks_text (replicate width 32) e.caret e.marks label → new ≡ old ++ excerpt_text width name e label
+excerpt_written {a} {b} old name label e number width number_is f g h =
+    in_three old (arrow_text (replicate width 32) name e.spot) (line_text (padded width e.spot.line) e.line) (marks_text (replicate width 32) e.caret e.marks label)
+    f (g ∙ ap (λ n. a ++ line_text n e.line) number_is) h

@@ -47,6 +47,29 @@ pub record IsFile (roles : List Role) (refused : Refusal) (n : ℕ) : Type 0 whe
   pub holds : role_of refused ≡ Some (role_at roles n)
   pub first : IsFirst roles refused n
 
+-- what a file holds that says how many phases a design has, given what the first file of its command holds
+abbrev pub role_of_phases : Role → Role
+role_of_phases role.Table = role.Table
+role_of_phases _ = role.Clock
+
+-- what another file holds that a message takes names from: of cells and of their pins, of instances and ports of the
+-- netlist, of phases
+abbrev pub role_beside : List Role → Refusal → Option Role
+role_beside roles (refusal.NoModule entry) = Some role.Cells
+role_beside roles (refusal.NoPin entry) = Some role.Cells
+role_beside roles (refusal.NoArc entry) = Some role.Cells
+role_beside roles (refusal.NoPhase element) = Some role.Cells
+role_beside roles (refusal.NoInstance of entry) = Some role.Netlist
+role_beside roles (refusal.BadClock entry rule) = Some role.Netlist
+role_beside roles (refusal.PhaseMismatch design schedule) = Some (role_of_phases (role_at roles 0))
+role_beside roles _ = None
+
+-- the other file that a message takes names from is the first that holds these
+pub record IsBeside (roles : List Role) (refused : Refusal) (n : ℕ) : Type 0 where
+  pub within : n < length roles
+  pub holds : role_beside roles refused ≡ Some (role_at roles n)
+  pub first : (k : ℕ) → k < n → role_beside roles refused ≢ Some (role_at roles k)
+
 -- the name of a file, by its number from 0 on
 abbrev pub name_at : List (List ℕ) → ℕ → List ℕ
 name_at names n = slice_index_or names n []

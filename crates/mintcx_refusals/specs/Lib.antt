@@ -2,3 +2,4 @@
 pub mod Files
 pub mod Places
 pub mod Messages
+pub mod Parts

@@ -1,6 +1,6 @@
 -- Messages of refusals.
-use Rattle.std.specs.Prelude.{◌≡◌, ℕ, List, [], ◌∷◌, ◌++◌, Option, Some, None, MatchOption, codes, decimal, length}
-use Rattle.std.specs.Prelude.{replicate}
+use Rattle.std.specs.Prelude.{◌≡◌, ◌≤◌, ℕ, ◌-◌, List, [], ◌∷◌, ◌++◌, Option, Some, None, MatchOption, codes}
+use Rattle.std.specs.Prelude.{decimal, length, replicate}
 use Rattle.mintc_text.specs.declared.refusals.Role.{Role}
 use Rattle.mintc_text.specs.declared.refusals.Refusal.{Refusal}
 use Rattle.mintc_text.specs.Lines.{words}
@@ -37,9 +37,9 @@ corner_note corner own = note_text (own_line corner ++ codes "; " ++ own_line ow
 abbrev pub spot_text : List ℕ → Spot → List ℕ
 spot_text name spot = name ++ codes ":" ++ decimal spot.line ++ codes ":" ++ decimal spot.column
 
--- blanks, as many as a number has digits
-abbrev pub margin : ℕ → List ℕ
-margin number = replicate (length (decimal number)) 32
+-- a number behind so many blanks that both are as wide as the margin
+abbrev pub padded : ℕ → ℕ → List ℕ
+padded width number = replicate (width - length (decimal number)) 32 ++ decimal number
 
 -- where an excerpt is from
 abbrev pub arrow_text : List ℕ → List ℕ → Spot → List ℕ
@@ -54,12 +54,17 @@ abbrev pub marks_text : List ℕ → ℕ → ℕ → List ℕ → List ℕ
 marks_text blanks caret marks label =
     blanks ++ codes " | " ++ replicate caret 32 ++ replicate marks 94 ++ label ++ 10 ∷ []
 
--- an excerpt: where it is from, the line behind its number, and the marks with their label
-abbrev pub excerpt_text : List ℕ → Excerpt → List ℕ → List ℕ
-excerpt_text name e label =
-    arrow_text (margin e.spot.line) name e.spot
-    ++ line_text (decimal e.spot.line) e.line
-    ++ marks_text (margin e.spot.line) e.caret e.marks label
+-- an excerpt behind a margin: where it is from, the line behind its number, and the marks with their label
+abbrev pub excerpt_text : ℕ → List ℕ → Excerpt → List ℕ → List ℕ
+excerpt_text width name e label =
+    arrow_text (replicate width 32) name e.spot
+    ++ line_text (padded width e.spot.line) e.line
+    ++ marks_text (replicate width 32) e.caret e.marks label
+
+-- a margin has room for the number of an excerpt's line
+abbrev pub IsWide : Option Excerpt → ℕ → Type 0
+IsWide None width = Unit {0}
+IsWide (Some e) width = length (decimal e.spot.line) ≤ width
 
 -- a file alone, if there is one
 abbrev pub file_text : List ℕ → List ℕ
@@ -67,9 +72,9 @@ file_text [] = []
 file_text (b ∷ bs) = codes " --> " ++ (b ∷ bs) ++ 10 ∷ []
 
 -- the place, as it is shown: with an excerpt, or else its file alone
-abbrev pub place_text : List ℕ → Option Excerpt → List ℕ → List ℕ
-place_text name None label = file_text name
-place_text name (Some e) label = excerpt_text name e label
+abbrev pub place_text : ℕ → List ℕ → Option Excerpt → List ℕ → List ℕ
+place_text width name None label = file_text name
+place_text width name (Some e) label = excerpt_text width name e label
 
 -- the excerpt shows what is marked of a place, and the spot is where that begins; there is none where there is no place
 abbrev pub IsExcerptAt : List ℕ → Option Place → Option Excerpt → Type 0
@@ -93,11 +98,14 @@ pub record IsMessage (roles : List Role) (names : List (List ℕ)) (file : List 
   pub what : List ℕ
   pub name : List ℕ
   pub excerpt : Option Excerpt
+  pub width : ℕ
   pub label : List ℕ
   pub advice : List ℕ
   pub is_name : IsNameOf roles names refused name
   pub is_excerpt : IsExcerptOf file refused excerpt
-  pub whole : text ≡ (((head refused ++ what ++ 10 ∷ []) ++ place_text name excerpt label) ++ advice) ++ note refused
+  pub is_wide : IsWide excerpt width
+  pub whole : text
+      ≡ (((head refused ++ what ++ 10 ∷ []) ++ place_text width name excerpt label) ++ advice) ++ note refused
 
 -- The message that a corner is refused: what its own files are refused for, and where; some advice, behind other
 -- places or none; and both lines.
@@ -107,13 +115,15 @@ pub record IsCornerMessage (roles : List Role) (names : List (List ℕ)) (file :
   pub own_what : List ℕ
   pub name : List ℕ
   pub excerpt : Option Excerpt
+  pub width : ℕ
   pub label : List ℕ
   pub advice : List ℕ
   pub is_name : IsNameOf roles names (teller corner own) name
   pub is_excerpt : IsExcerptOf file own excerpt
+  pub is_wide : IsWide excerpt width
   pub whole : text
-      ≡ ((((head corner ++ what ++ 10 ∷ []) ++ (head own ++ own_what ++ 10 ∷ [])) ++ place_text name excerpt label)
-      ++ advice) ++ corner_note corner own
+      ≡ ((((head corner ++ what ++ 10 ∷ []) ++ (head own ++ own_what ++ 10 ∷ []))
+      ++ place_text width name excerpt label) ++ advice) ++ corner_note corner own
 
 -- a file as a line begins with it, if there is one
 abbrev pub short_file : List ℕ → List ℕ

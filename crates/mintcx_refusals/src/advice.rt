@@ -1,42 +1,18 @@
-//! Why an input is refused, and what helps.
+//! What helps with an input that is refused.
 
-use crate::cases::{Case, bad_ending, bytes_at, first_word, is_last};
+use crate::cases::{Case, bad_ending, bytes_at, first_word, is_last, marked};
+use crate::clocks::put_clock_help;
+use crate::descriptions::put_key_help;
 use crate::entries::entry_of;
 use crate::files::named;
 use crate::others::put_others;
-use crate::places::fault_of;
+use crate::places::{Place, fault_of};
+use crate::whys::{is_behaviour, why_of};
 use crate::writing::put_times;
+use mintc_sdf_tokens::is_key;
 use mintc_text::{Bytes, Lines, OutOfMemory, Refusal, Role};
-use mintcx_finders::{Class, Fault};
+use mintcx_finders::{Fault, Item, Lack, name_of};
 use std::alloc::Global;
-
-/// Whether a word begins what says how a circuit behaves.
-fn is_behaviour(word: &[u8]) -> bool {
-    word == b"always".as_slice()
-        || word == b"initial".as_slice()
-        || word == b"reg".as_slice()
-        || word == b"function".as_slice()
-        || word == b"task".as_slice()
-        || word == b"generate".as_slice()
-        || word == b"specify".as_slice()
-}
-
-/// Why a statement isn't structural Verilog, by its first word.
-fn statement_why(word: &[u8]) -> &'static [u8] {
-    if word == b"inout".as_slice() {
-        b"`inout` ports have no direction that data goes in"
-    } else if word == b"always".as_slice() {
-        b"`always` is behaviour, and a netlist has none"
-    } else if word == b"initial".as_slice() {
-        b"`initial` is behaviour, and a netlist has none"
-    } else if is_behaviour(word) {
-        b"it says how the circuit behaves, and a netlist says what it is made of"
-    } else if word == b"parameter".as_slice() || word == b"localparam".as_slice() {
-        b"a netlist has no parameters"
-    } else {
-        b""
-    }
-}
 
 /// What helps with a statement, by its first word.
 fn statement_help(word: &[u8]) -> &'static [u8] {
@@ -49,77 +25,9 @@ fn statement_help(word: &[u8]) -> &'static [u8] {
     }
 }
 
-/// The form of a line of a table, by its first word.
-fn table_form(file: &[u8], word: &[u8]) -> &'static [u8] {
-    if word == b"element".as_slice() && file.starts_with(b"table 1\n") {
-        b"the form is `element NAME PHASE SETUP HOLD DQMIN DQMAX WIDTH`"
-    } else if word == b"element".as_slice() && file.starts_with(b"table 2\n") {
-        b"the form is `element NAME PHASE KIND SETUP HOLD DQMIN DQMAX WIDTH`"
-    } else if word == b"element".as_slice() {
-        b"the form is `element NAME PHASE KIND SETUP HOLD DQMIN DQMAX CQMIN CQMAX WIDTH`"
-    } else if word == b"phase".as_slice() {
-        b"the form is `phase NAME`"
-    } else if word == b"arc".as_slice() {
-        b"the form is `arc FROM TO MIN MAX`"
-    } else if word == b"bound".as_slice() {
-        b"the form is `bound FROM TO GAP CYCLES`"
-    } else {
-        b"its parts are phases, elements, inner bits, arcs, bounds and `end`, in this order"
-    }
-}
-
-/// Why a name stands for one thing alone.
-fn class_why(case: &Case<'_>) -> &'static [u8] {
-    match fault_of(case.place) {
-        Some(
-            Fault::Again {
-                class: Class::Module,
-                ..
-            },
-        ) => b"each module has its own name",
-        Some(
-            Fault::Again {
-                class: Class::Port,
-                ..
-            },
-        ) => b"a port has one declaration in its module",
-        Some(
-            Fault::Again {
-                class: Class::Net,
-                ..
-            },
-        ) => b"a net has one declaration in its module",
-        Some(
-            Fault::Again {
-                class: Class::Instance,
-                ..
-            },
-        ) => b"in its module each instance has its own name",
-        _ => b"in its module a net and a port have one declaration, and each instance its own name",
-    }
-}
-
 /// Whether a least number is found to be above its greatest.
 fn is_above(case: &Case<'_>) -> bool {
     matches!(fault_of(case.place), Some(Fault::Above { .. }))
-}
-
-/// Why a line is out of form.
-fn line_why(case: &Case<'_>, role: Role) -> &'static [u8] {
-    let ending = bad_ending(case.file, case.place);
-    if !ending.is_empty() {
-        return ending;
-    }
-    match role {
-        Role::Table => table_form(case.file, first_word(case.file, case.place)),
-        Role::Schedule if bytes_at(case.file, case.place).contains(&b'.') => {
-            b"times are whole numbers over `den`"
-        }
-        Role::Schedule => {
-            b"the lines are `schedule 1`, `den D`, `cycle C`, `phases K`, K times `phase START WIDTH` and `end`"
-        }
-        _ => b"",
-    }
 }
 
 /// What helps with a line that is out of form, or with a file that ends too soon.
@@ -139,47 +47,58 @@ fn line_help(case: &Case<'_>, role: Role) -> &'static [u8] {
     }
 }
 
-/// Why a text is out of form.
-fn syntax_why(case: &Case<'_>, role: Role) -> &'static [u8] {
-    match role {
-        Role::Netlist if is_last(case.place) => b"",
-        Role::Netlist => statement_why(first_word(case.file, case.place)),
-        Role::Table | Role::Schedule | Role::Certificate if !is_last(case.place) => {
-            line_why(case, role)
-        }
-        _ => b"",
+/// What helps with delays that are out of form, by the keyword that is marked.
+fn delays_help(keyword: &[u8]) -> &'static [u8] {
+    if is_key(keyword, b"INCREMENT") {
+        b"have the tool write sums, under ABSOLUTE"
+    } else if is_key(keyword, b"NETDELAY") {
+        b"have the tool write an INTERCONNECT for each end of the net"
+    } else if is_key(keyword, b"DEVICE") {
+        b"have the tool write an IOPATH for each pair of pins"
+    } else if is_key(keyword, b"RETAIN") {
+        b"leave it out, or write its numbers as one more value of the IOPATH"
+    } else {
+        b"have the tool write ABSOLUTE delays and timing checks alone"
+    }
+}
+
+/// What helps with delays that are out of form, from an entry on.
+fn entry_help(case: &Case<'_>, entry: u32) -> &'static [u8] {
+    if entry == 0 {
+        return b"look whether it is an SDF file, unpacked";
+    }
+    match fault_of(case.place) {
+        Some(Fault::Unclosed) => b"close it, or have the tool write the file again",
+        _ => delays_help(marked(case)),
+    }
+}
+
+/// What helps with a library that is out of form, from a statement on.
+fn library_help(case: &Case<'_>, entry: u32) -> &'static [u8] {
+    if entry == 0 {
+        return b"look whether it is a Liberty file, unpacked";
+    }
+    match fault_of(case.place) {
+        Some(
+            Fault::Broken {
+                lack: Lack::Brace,
+                ..
+            },
+        ) => b"close it with `}`, or fetch the library again",
+        _ if is_last(case.place) => b"close the library with `}`, or fetch it again",
+        _ => b"end it with `;`, or fetch the library again",
     }
 }
 
 /// What helps with a text that is out of form.
-fn syntax_help(case: &Case<'_>, role: Role) -> &'static [u8] {
+fn syntax_help(case: &Case<'_>, role: Role, entry: u32) -> &'static [u8] {
     match role {
         Role::Netlist if is_last(case.place) => b"close the module, or fetch the file again",
         Role::Netlist => statement_help(first_word(case.file, case.place)),
-        Role::Delays => b"have the tool write ABSOLUTE delays and timing checks alone",
-        Role::Cells => b"end it with `;`, or fetch the library again",
+        Role::Delays => entry_help(case, entry),
+        Role::Cells => library_help(case, entry),
         Role::Clock => b"mend it",
         Role::Table | Role::Schedule | Role::Certificate => line_help(case, role),
-    }
-}
-
-/// Why an input is refused; nothing where the first line says it all.
-fn why_of(case: &Case<'_>) -> &'static [u8] {
-    match case.refusal {
-        Refusal::Syntax { role, .. } => syntax_why(case, *role),
-        Refusal::NameTwice { .. } => class_why(case),
-        Refusal::Recursive { .. } => b"modules that hold each other have no end",
-        Refusal::TwoDrivers { .. } => {
-            b"a bit has one driver: an input port, an assign or one output"
-        }
-        Refusal::Negative { .. } => {
-            b"static timing tools write them where tables are read beyond their ends, mostly at long nets"
-        }
-        Refusal::BadCell { rule: 6, .. } => b"times of descriptions are whole femtoseconds",
-        Refusal::BadClock { rule: 3, .. } => b"each phase has a `name` and a `port`",
-        Refusal::NoPhase { .. } => b"a clock goes through cells of kind `clock` alone",
-        Refusal::Corner { .. } => b"each corner has to be a design by itself",
-        _ => b"",
     }
 }
 
@@ -214,16 +133,49 @@ fn clock_help(rule: u32) -> &'static [u8] {
     }
 }
 
+/// What helps with a port that the top doesn't have.
+fn port_help(case: &Case<'_>) -> &'static [u8] {
+    match fault_of(case.place) {
+        Some(
+            Fault::Port {
+                item: Item::Phase,
+                ..
+            },
+        ) => b"name a port of the top, one bit of an input",
+        Some(
+            Fault::Port {
+                item: Item::Input,
+                ..
+            },
+        ) => b"name an input port of the top",
+        Some(
+            Fault::Port {
+                item: Item::Output,
+                ..
+            },
+        ) => b"name an output port of the top",
+        _ => b"name a port of the top; a phase is on one bit of an input",
+    }
+}
+
+/// Whether it is a module of the netlist that doesn't have a port.
+fn is_of_module(case: &Case<'_>) -> bool {
+    matches!(fault_of(case.place), Some(Fault::NoPort { .. }))
+}
+
 /// What helps, where that needs no name of a file.
 fn help_of(case: &Case<'_>) -> &'static [u8] {
     match case.refusal {
-        Refusal::Syntax { role, .. } => syntax_help(case, *role),
+        Refusal::Syntax { role, entry } => syntax_help(case, *role, *entry),
         Refusal::TooLong { role: Role::Delays } => {
             b"split the design, or leave out what isn't timed (`grep -v INTERCONNECT`, where all are 0)"
         }
         Refusal::TooLong { .. } => b"split the design, or leave out what it doesn't use",
         Refusal::NameTwice { .. } => b"take one of them out, or rename it",
         Refusal::Recursive { .. } => b"take the instance out",
+        Refusal::NoPin { .. } if is_of_module(case) => {
+            b"mend the name, or add the port to the module"
+        }
         Refusal::NoPin { .. } => {
             b"mend the name, or list the pin under `ignored` of a latch, flop or clock cell"
         }
@@ -232,7 +184,7 @@ fn help_of(case: &Case<'_>) -> &'static [u8] {
         Refusal::NoInstance {
             role: Role::Clock,
             ..
-        } => b"name a port of the top; a phase is on one bit of an input",
+        } => port_help(case),
         Refusal::NoInstance { .. } => {
             b"write the SDF of this very netlist; look at DIVIDER, and at names with backslashes"
         }
@@ -263,6 +215,20 @@ fn put_parts_help(out: &mut Lines, case: &Case<'_>) -> Result<(), OutOfMemory> {
     out.put(clock)
 }
 
+/// The name of a module that may be the top, or what stands for one.
+fn top_name<'a>(case: &Case<'a>) -> &'a [u8] {
+    match case.place {
+        Some(
+            Place {
+                fault: Some(Fault::Tops { .. }),
+                mark,
+                ..
+            },
+        ) => name_of(case.file, &mark),
+        _ => b"NAME",
+    }
+}
+
 /// Writes what helps, where that names a file.
 fn put_naming_help(out: &mut Lines, case: &Case<'_>) -> Result<(), OutOfMemory> {
     match case.refusal {
@@ -272,18 +238,16 @@ fn put_naming_help(out: &mut Lines, case: &Case<'_>) -> Result<(), OutOfMemory> 
             out.put(b", give the library with --lib, or add its module")
         }
         Refusal::TopUnclear { .. } => {
-            out.put(b"name one: `top = \"NAME\"` in ")?;
+            out.put(b"name one: `top = \"")?;
+            out.put(top_name(case))?;
+            out.put(b"\"` in ")?;
             out.put(named(case.inputs, Role::Clock, b"the clock description"))
         }
         Refusal::NoArc { .. } => {
             out.put(b"mend the pins; for a latch or flop look at its entry in ")?;
             out.put(named(case.inputs, Role::Cells, b"the cells"))
         }
-        Refusal::NoPhase { .. } => {
-            out.put(b"describe the cells on its clock's way in ")?;
-            out.put(named(case.inputs, Role::Cells, b"the cells"))?;
-            out.put(b" with the kind `clock`, if they carry no data")
-        }
+        Refusal::NoPhase { .. } => put_clock_help(out, case),
         _ => put_parts_help(out, case),
     }
 }
@@ -300,7 +264,13 @@ fn put_advice(out: &mut Lines, margin: usize, key: &[u8], text: &[u8]) -> Result
 }
 
 /// What helps, also where that names a file.
-fn whole_help(alloc: Global, case: &Case<'_>) -> Result<Bytes, OutOfMemory> {
+pub(crate) fn whole_help(alloc: Global, case: &Case<'_>) -> Result<Bytes, OutOfMemory> {
+    let mut lines = Lines::new(alloc);
+    put_key_help(alloc, &mut lines, case)?;
+    let found = Bytes::new(lines.into_bytes());
+    if !found.items().is_empty() {
+        return Ok(found);
+    }
     let mut lines = Lines::new(alloc);
     let help = help_of(case);
     if help.is_empty() {
@@ -318,11 +288,12 @@ pub(crate) fn advice_of(
     margin: usize,
 ) -> Result<Bytes, OutOfMemory> {
     let entry = entry_of(alloc, case)?;
+    let why = why_of(alloc, case)?;
     let help = whole_help(alloc, case)?;
     let mut lines = Lines::new(alloc);
     put_others(alloc, &mut lines, case, margin)?;
     put_advice(&mut lines, margin, b" = why: ", entry.items())?;
-    put_advice(&mut lines, margin, b" = why: ", why_of(case))?;
+    put_advice(&mut lines, margin, b" = why: ", why.items())?;
     put_advice(&mut lines, margin, b" = help: ", help.items())?;
     put_times(&mut lines, b' ', margin)?;
     lines.put(b" ")?;

@@ -5,6 +5,7 @@ use crate::files::Inputs;
 use crate::places::Place;
 use mintc_text::{Refusal, Role};
 use mintc_vlex::{TokenKind, next_token};
+use mintcx_finders::{bytes_of, name_of};
 
 /// A refusal with the files of the command, the bytes of the file that it speaks of, and the place there, which is that
 /// of `own`: the refusal itself, or of a corner that of its files.
@@ -28,10 +29,24 @@ pub(crate) fn is_last(place: Option<Place>) -> bool {
 /// The bytes of a place; none where there is no place.
 pub(crate) fn bytes_at(file: &[u8], place: Option<Place>) -> &[u8] {
     match place {
-        Some(place) if place.range.from <= place.range.to && place.range.to <= file.len() => {
-            &file[place.range.from..place.range.to]
-        }
-        _ => b"",
+        Some(place) => bytes_of(file, &place.range),
+        None => b"",
+    }
+}
+
+/// What is marked of a place; none where there is no place.
+pub(crate) fn marked<'a>(case: &Case<'a>) -> &'a [u8] {
+    match case.place {
+        Some(place) => bytes_of(case.file, &place.mark),
+        None => b"",
+    }
+}
+
+/// The name that is marked; none where there is no place.
+pub(crate) fn marked_name<'a>(case: &Case<'a>) -> &'a [u8] {
+    match case.place {
+        Some(place) => name_of(case.file, &place.mark),
+        None => b"",
     }
 }
 

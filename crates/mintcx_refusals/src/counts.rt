@@ -17,3 +17,16 @@ pub(crate) fn put_count(alloc: Global, out: &mut Lines, count: u64) -> Result<()
     }
     Ok(())
 }
+
+/// Writes a count of what may be one or many.
+pub(crate) fn put_many(
+    alloc: Global,
+    out: &mut Lines,
+    count: u64,
+    one: &[u8],
+    many: &[u8],
+) -> Result<(), OutOfMemory> {
+    put_count(alloc, out, count)?;
+    out.put(b" ")?;
+    out.put(if count == 1 { one } else { many })
+}

@@ -1,8 +1,11 @@
 //! Which entry of its file a refusal speaks of, where its place isn't shown whole.
 
 use crate::cases::{Case, is_last};
+use crate::details::put_named;
+use crate::places::fault_of;
 use crate::writing::put_number;
 use mintc_text::{Bytes, Lines, OutOfMemory, Refusal, Role};
+use mintcx_finders::{Fault, bytes_of};
 use std::alloc::Global;
 
 /// How the entries of delays are counted.
@@ -68,10 +71,29 @@ fn put_item(out: &mut Lines, refusal: &Refusal) -> Result<(), OutOfMemory> {
     }
 }
 
+/// Writes of what the statement directly in a library is that holds the one at fault.
+fn put_holder(out: &mut Lines, case: &Case<'_>) -> Result<(), OutOfMemory> {
+    match fault_of(case.place) {
+        Some(
+            Fault::Broken {
+                holder: Some(name),
+                ..
+            },
+        ) => {
+            put_named(out, b", a", bytes_of(case.file, &name))?;
+            out.put(b" that holds it")
+        }
+        _ => Ok(()),
+    }
+}
+
 /// Writes which entry it is.
 fn put_entry(out: &mut Lines, case: &Case<'_>) -> Result<(), OutOfMemory> {
     match case.own {
-        Refusal::Syntax { role, entry } => put_syntax(out, *role, *entry, is_last(case.place)),
+        Refusal::Syntax { role, entry } => {
+            put_syntax(out, *role, *entry, is_last(case.place))?;
+            put_holder(out, case)
+        }
         Refusal::NoInstance {
             role: Role::Delays,
             entry,
@@ -105,10 +127,20 @@ fn is_begun(refusal: &Refusal) -> bool {
     )
 }
 
-/// Which entry of its file a refusal speaks of, or which one is missing; nothing where its place is shown whole.
+/// Whether the entry isn't told, as a place in it is shown that says enough.
+fn is_shown(case: &Case<'_>) -> bool {
+    match fault_of(case.place) {
+        Some(Fault::Keyword | Fault::Broken { .. }) | None => false,
+        Some(_) => true,
+    }
+}
+
+/// Which entry of its file a refusal speaks of, or which one is missing; nothing where its place is shown whole, or a
+/// place in it.
 pub(crate) fn entry_of(alloc: Global, case: &Case<'_>) -> Result<Bytes, OutOfMemory> {
     let mut lines = Lines::new(alloc);
-    if case.place.is_none() || is_last(case.place) || is_begun(case.own) {
+    let is_whole = case.place.is_some() && !is_last(case.place) && !is_begun(case.own);
+    if !is_whole && !is_shown(case) {
         put_entry(&mut lines, case)?;
     }
     Ok(Bytes::new(lines.into_bytes()))

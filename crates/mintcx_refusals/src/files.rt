@@ -1,6 +1,7 @@
 //! The file of a command that a refusal speaks of.
 ghost use Rattle.std.specs.Prelude.{◌≡◌, ◌≢◌, ◌<◌, ℕ, IfNone, IfSome, length};
-ghost use Rattle.mintcx_refusals.specs.Files.{IsFile, IsNameOf, is_of_delays, name_at, role_at, role_of, teller};
+ghost use Rattle.mintcx_refusals.specs.Files.{IsBeside, IsFile, IsNameOf, is_of_delays, name_at, role_at};
+ghost use Rattle.mintcx_refusals.specs.Files.{role_beside, role_of, role_of_phases, teller};
 
 use mintc_text::{Name, Refusal, Role};
 
@@ -9,6 +10,8 @@ use mintc_text::{Name, Refusal, Role};
 pub struct Inputs<'a> {
     pub roles: &'a [Role],
     pub names: &'a [Name],
+    /// The bytes of the file that `beside_of` says, or none where that can't be had.
+    pub beside: &'a [u8],
 }
 
 /// What the file holds that a refusal speaks of. None of one that speaks of no file.
@@ -79,6 +82,54 @@ pub fn file_of(roles: &[Role], refusal: &Refusal) -> Option<usize>
             Some(role) => first_of(roles, role),
             None => None,
         },
+    }
+}
+
+/// What a file holds, by its number from 0 on.
+fn role_at(roles: &[Role], at: usize) -> Role
+    ensures { result ≡ role_at roles.now at }
+{
+    match roles.get(at) {
+        Some(role) => *role,
+        None => Role::Table,
+    }
+}
+
+/// What a file holds that says how many phases a design has, given what the first file of its command holds.
+fn role_of_phases(first: Role) -> Role
+    ensures { result ≡ role_of_phases first }
+{
+    match first {
+        Role::Table => Role::Table,
+        _ => Role::Clock,
+    }
+}
+
+/// What another file holds that a message takes names from. None of a message that takes none.
+fn role_beside(roles: &[Role], refusal: &Refusal) -> Option<Role>
+    ensures { result ≡ role_beside roles.now refusal.now }
+{
+    match refusal {
+        Refusal::NoModule { .. }
+        | Refusal::NoPin { .. }
+        | Refusal::NoArc { .. }
+        | Refusal::NoPhase { .. } => Some(Role::Cells),
+        Refusal::NoInstance { .. } | Refusal::BadClock { .. } => Some(Role::Netlist),
+        Refusal::PhaseMismatch { .. } => Some(role_of_phases(role_at(roles, 0))),
+        _ => None,
+    }
+}
+
+/// Which other file of the command a message takes names from, counted from 0 in the order of its words: of cells and
+/// of their pins, of instances and ports of the netlist, or of phases. None where it takes none, or the command has no
+/// such file. Of a corner it is that of its own refusal.
+pub fn beside_of(roles: &[Role], refusal: &Refusal) -> Option<usize>
+    ensures some { IfSome result (IsBeside roles.now refusal.now) }
+    ensures none { IfNone result ((n : ℕ) → IsBeside roles.now refusal.now n → ⊥) }
+{
+    match role_beside(roles, refusal) {
+        Some(role) => first_of(roles, role),
+        None => None,
     }
 }
 

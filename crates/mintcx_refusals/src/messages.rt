@@ -1,11 +1,13 @@
 //! The message of a refusal, whole or in one line.
 ghost use Rattle.std.specs.Prelude.{◌≤◌, IfOk, IfSome, length};
-ghost use Rattle.mintcx_refusals.specs.Messages.{IsCornerMessage, IsExcerptAt, IsMessage, IsShortMessage, IsSpotAt};
+ghost use Rattle.mintcx_refusals.specs.Messages.{IsCornerMessage, IsExcerptAt, IsMessage, IsShortMessage};
+ghost use Rattle.mintcx_refusals.specs.Messages.{IsSpotAt, IsWide};
 
 use crate::advice::advice_of;
 use crate::cases::Case;
 use crate::files::{Inputs, name_of, teller};
 use crate::labels::label_of;
+use crate::others::others_width;
 use crate::places::{Place, place_of};
 use crate::whats::what_of;
 use crate::writing::{digits_of, put_corner_note, put_head, put_note, put_place, put_short_place};
@@ -39,8 +41,10 @@ fn spot_at(file: &[u8], place: Option<Place>) -> Option<Spot>
     }
 }
 
-/// How many blanks stand before the parts of a message: as many as the number of the line has digits.
-fn margin_of(alloc: Global, excerpt: &Option<Excerpt>) -> Result<usize, OutOfMemory> {
+/// How many digits the number of an excerpt's line has; none where there is no excerpt.
+fn digits_at(alloc: Global, excerpt: &Option<Excerpt>) -> Result<usize, OutOfMemory>
+    ensures { IfOk result (IsWide excerpt.now) }
+{
     match excerpt {
         Some(excerpt) => {
             let digits = digits_of(alloc, excerpt.spot.line)?;
@@ -50,9 +54,23 @@ fn margin_of(alloc: Global, excerpt: &Option<Excerpt>) -> Result<usize, OutOfMem
     }
 }
 
+/// How many blanks stand before the parts of a message: as many as the greatest number of its lines has digits.
+fn margin_of(
+    alloc: Global,
+    case: &Case<'_>,
+    excerpt: &Option<Excerpt>,
+) -> Result<usize, OutOfMemory>
+    ensures { IfOk result (IsWide excerpt.now) }
+{
+    let digits = digits_at(alloc, excerpt)?;
+    let others = others_width(alloc, case)?;
+    Ok(digits.max(others))
+}
+
 /// The message of a refusal, over several lines: its number and what it is; the file, the line and the column, and the
-/// line itself with marks below the word at fault or all of it, as far as the place is known; why it is refused, and what helps; and mintc's own
-/// line. `file` is what `file_of` says, read once more, or empty where that can't be had.
+/// line itself with marks below the word at fault or all of it, as far as the place is known; other places, where some
+/// are found; why it is refused, and what helps; and mintc's own line. `file` is what `file_of` says, read once more,
+/// or empty where that can't be had.
 pub fn refusal_message(
     alloc: Global,
     refusal: &Refusal,
@@ -61,7 +79,7 @@ pub fn refusal_message(
 ) -> Result<Bytes, OutOfMemory>
     ensures { IfOk result (IsMessage inputs.now.roles.now inputs.now.names.now file.now refusal.now) }
 {
-    let place = place_of(alloc, file, refusal)?;
+    let place = place_of(alloc, file, inputs.beside, refusal)?;
     let name = name_of(inputs, refusal);
     let excerpt = excerpt_at(alloc, file, place)?;
     let case = Case {
@@ -73,10 +91,11 @@ pub fn refusal_message(
     };
     let what = what_of(alloc, &case)?;
     let label = label_of(alloc, &case)?;
-    let advice = advice_of(alloc, &case, margin_of(alloc, &excerpt)?)?;
+    let margin = margin_of(alloc, &case, &excerpt)?;
+    let advice = advice_of(alloc, &case, margin)?;
     let mut lines = Lines::new(alloc);
     put_head(&mut lines, refusal, what.items())?;
-    put_place(alloc, &mut lines, name, &excerpt, label.items())?;
+    put_place(alloc, &mut lines, margin, name, &excerpt, label.items())?;
     lines.put(advice.items())?;
     put_note(alloc, &mut lines, refusal)?;
     Ok(Bytes::new(lines.into_bytes()))
@@ -95,7 +114,7 @@ pub fn corner_message(
         (IsCornerMessage inputs.now.roles.now inputs.now.names.now file.now (Refusal.Corner corner) own.now) }
 {
     let outer = Refusal::Corner { file: corner };
-    let place = place_of(alloc, file, own)?;
+    let place = place_of(alloc, file, inputs.beside, own)?;
     let name = name_of(inputs, teller(&outer, own));
     let excerpt = excerpt_at(alloc, file, place)?;
     let inner = Case {
@@ -112,11 +131,12 @@ pub fn corner_message(
     let what = what_of(alloc, &case)?;
     let own_what = what_of(alloc, &inner)?;
     let label = label_of(alloc, &inner)?;
-    let advice = advice_of(alloc, &case, margin_of(alloc, &excerpt)?)?;
+    let margin = margin_of(alloc, &case, &excerpt)?;
+    let advice = advice_of(alloc, &case, margin)?;
     let mut lines = Lines::new(alloc);
     put_head(&mut lines, &outer, what.items())?;
     put_head(&mut lines, own, own_what.items())?;
-    put_place(alloc, &mut lines, name, &excerpt, label.items())?;
+    put_place(alloc, &mut lines, margin, name, &excerpt, label.items())?;
     lines.put(advice.items())?;
     put_corner_note(alloc, &mut lines, &outer, own)?;
     Ok(Bytes::new(lines.into_bytes()))
@@ -132,7 +152,7 @@ pub fn short_message(
 ) -> Result<Bytes, OutOfMemory>
     ensures { IfOk result (IsShortMessage inputs.now.roles.now inputs.now.names.now file.now refusal.now) }
 {
-    let place = place_of(alloc, file, refusal)?;
+    let place = place_of(alloc, file, inputs.beside, refusal)?;
     let case = Case {
         refusal,
         own: refusal,

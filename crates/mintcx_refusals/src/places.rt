@@ -1,13 +1,20 @@
 //! The place in its file that a refusal speaks of.
-ghost use Rattle.std.specs.Prelude.{◌≡◌, ◌≤◌, IfNone, IfSome, length};
+ghost use Rattle.std.specs.Prelude.{◌≡◌, ◌≤◌, IfNone, IfSome, false, length};
 ghost use Rattle.std.specs.Prelude.{IfOk};
-ghost use Rattle.mintcx_finders.specs.Places.{IsInside};
+ghost use Rattle.mintcx_finders.specs.Places.{IsInside, IsRange};
 ghost use Rattle.mintcx_refusals.specs.Places.{HasMark, HasNoPlace, HasNone, IsAt, IsPlace, IsPlaceAt, before};
 ghost use Rattle.mintcx_refusals.specs.Places.{pointer_of};
 
 use mintc_text::{OutOfMemory, Refusal, Role};
-use mintcx_finders::{Fault, Found, behaviour, field_fault, missing_cell, name_twice, ring};
-use mintcx_places::{Range, entry_range, library_statement_range, line_range, statement_range};
+use mintcx_finders::{
+    Fault, Found, arc_lines, behaviour, broken_statement, cell_fault, clock_fault, clockless,
+    far_number, field_fault, long_way, missing_cell, missing_instance, missing_pin, missing_port,
+    missing_port_of_module, missing_way, name_twice, negative_number, possible_tops, ring,
+    two_drivers, unclosed_list, unread_key, wrong_width,
+};
+use mintcx_places::{
+    Range, delays_range, entry_range, library_statement_range, line_range, statement_range,
+};
 use std::alloc::Global;
 
 /// What a refusal points at.
@@ -17,10 +24,14 @@ pub(crate) enum Pointer {
     Statement(u32),
     /// The entry of this number of the delays.
     Entry(u32),
+    /// The list that delays are.
+    Delays,
     /// The statement of this number directly in the library.
     LibraryStatement(u32),
     /// The line of this number.
     Line(u32),
+    /// Some place that is looked for.
+    Somewhere,
     /// No place that is known.
     Nowhere,
 }
@@ -71,15 +82,19 @@ fn pointer_of(refusal: &Refusal) -> Pointer
         | Refusal::Negative { entry }
         | Refusal::Range { entry } => Pointer::Entry(*entry),
         Refusal::PhaseMismatch { .. } => Pointer::Line(PHASES_LINE),
-        Refusal::TooLong { .. }
-        | Refusal::TopUnclear { .. }
-        | Refusal::NoInstance { .. }
+        Refusal::TopUnclear { .. }
+        | Refusal::NoInstance {
+            role: Role::Clock,
+            ..
+        }
         | Refusal::BadCell { .. }
         | Refusal::BadClock { .. }
         | Refusal::NoPhase { .. }
         | Refusal::CombinationalLoop { .. }
+        | Refusal::PathRange { .. } => Pointer::Somewhere,
+        Refusal::TooLong { .. }
+        | Refusal::NoInstance { .. }
         | Refusal::Limit { .. }
-        | Refusal::PathRange { .. }
         | Refusal::Corner { .. } => Pointer::Nowhere,
     }
 }
@@ -90,10 +105,11 @@ fn before(pointer: Pointer) -> Pointer
 {
     match pointer {
         Pointer::Statement(number) => Pointer::Statement(number.saturating_sub(1)),
-        Pointer::Entry(number) => Pointer::Entry(number.saturating_sub(1)),
+        Pointer::Entry(number) if number > 1 => Pointer::Entry(number - 1),
+        Pointer::Entry(_) => Pointer::Delays,
         Pointer::LibraryStatement(number) => Pointer::LibraryStatement(number.saturating_sub(1)),
         Pointer::Line(number) => Pointer::Line(number.saturating_sub(1)),
-        Pointer::Nowhere => Pointer::Nowhere,
+        Pointer::Delays | Pointer::Somewhere | Pointer::Nowhere => Pointer::Nowhere,
     }
 }
 
@@ -106,9 +122,10 @@ fn range_at(file: &[u8], pointer: Pointer) -> Option<Range>
     match pointer {
         Pointer::Statement(number) => statement_range(file, number),
         Pointer::Entry(number) => entry_range(file, number),
+        Pointer::Delays => delays_range(file),
         Pointer::LibraryStatement(number) => library_statement_range(file, number),
         Pointer::Line(number) => line_range(file, number),
-        Pointer::Nowhere => None,
+        Pointer::Somewhere | Pointer::Nowhere => None,
     }
 }
 
@@ -153,10 +170,85 @@ fn place_at(file: &[u8], pointer: Pointer) -> Option<Place>
     }
 }
 
-/// What a finder finds in the line or the statement of a refusal.
+/// What a finder finds in an entry of the delays that is out of form.
+fn found_in_delays(file: &[u8], range: &Range) -> Option<Found>
+    ensures { IfSome result (λ found. IsInside range.now found.range) }
+{
+    match unclosed_list(file, range) {
+        Some(found) => Some(found),
+        None => unread_key(file, range),
+    }
+}
+
+/// What a finder finds in what stands last of a file that ends too soon.
+fn found_in_last(file: &[u8], refusal: &Refusal, range: &Range) -> Option<Found>
+    ensures { IfSome result (λ found. IsInside range.now found.range) }
+{
+    match refusal {
+        Refusal::Syntax {
+            role: Role::Delays,
+            ..
+        } => unclosed_list(file, range),
+        _ => None,
+    }
+}
+
+/// What a finder finds in a part of a text that is out of form.
+fn found_out_of_form(file: &[u8], role: Role, range: &Range) -> Option<Found>
+    requires order { range.now.from ≤ range.now.to }
+    requires within { range.now.to ≤ length file.now }
+    ensures { IfSome result (λ found. IsInside range.now found.range) }
+{
+    match role {
+        Role::Netlist => behaviour(file, range),
+        Role::Delays => found_in_delays(file, range),
+        Role::Table | Role::Schedule | Role::Certificate => field_fault(file, range),
+        Role::Cells => broken_statement(file, range),
+        Role::Clock => None,
+    }
+}
+
+/// The port or pin that isn't there: of a module of the netlist, else of a cell by the cell description.
+fn found_port(
+    alloc: Global,
+    file: &[u8],
+    beside: &[u8],
+    range: &Range,
+) -> Result<Option<Found>, OutOfMemory>
+    ensures { IfOk result (λ o. IfSome o (λ found. IsInside range.now found.range)) }
+{
+    match missing_port_of_module(alloc, file, range)? {
+        Some(found) => Ok(Some(found)),
+        None => missing_pin(alloc, file, beside, range),
+    }
+}
+
+/// What a finder finds in the statement of a refusal.
+fn found_in_statement(
+    alloc: Global,
+    file: &[u8],
+    beside: &[u8],
+    refusal: &Refusal,
+    range: &Range,
+) -> Result<Option<Found>, OutOfMemory>
+    ensures { IfOk result (λ o. IfSome o (λ found. IsInside range.now found.range)) }
+{
+    match refusal {
+        Refusal::NameTwice { .. } => name_twice(alloc, file, range),
+        Refusal::NoModule { .. } => Ok(missing_cell(file, range)),
+        Refusal::Recursive { .. } => Ok(ring(file, range)),
+        Refusal::NoPin { .. } => found_port(alloc, file, beside, range),
+        Refusal::Width { .. } => wrong_width(alloc, file, range),
+        Refusal::TwoDrivers { .. } => two_drivers(alloc, file, range),
+        _ => Ok(None),
+    }
+}
+
+/// What a finder finds in the line, the statement or the entry of a refusal.
 fn found_in(
     alloc: Global,
     file: &[u8],
+    beside: &[u8],
     refusal: &Refusal,
     range: &Range,
 ) -> Result<Option<Found>, OutOfMemory>
@@ -165,15 +257,12 @@ fn found_in(
     ensures { IfOk result (λ o. IfSome o (λ found. IsInside range.now found.range)) }
 {
     match refusal {
-        Refusal::Syntax {
-            role: Role::Netlist,
-            ..
-        } => Ok(behaviour(file, range)),
-        Refusal::Syntax { .. } => Ok(field_fault(file, range)),
-        Refusal::NameTwice { .. } => name_twice(alloc, file, range),
-        Refusal::NoModule { .. } => Ok(missing_cell(file, range)),
-        Refusal::Recursive { .. } => Ok(ring(file, range)),
-        _ => Ok(None),
+        Refusal::Syntax { role, .. } => Ok(found_out_of_form(file, *role, range)),
+        Refusal::NoInstance { .. } => Ok(missing_instance(file, range)),
+        Refusal::NoArc { .. } => Ok(missing_way(file, range)),
+        Refusal::Negative { .. } => Ok(negative_number(file, range)),
+        Refusal::Range { .. } => Ok(far_number(file, range)),
+        _ => found_in_statement(alloc, file, beside, refusal, range),
     }
 }
 
@@ -195,10 +284,11 @@ fn with_found(place: Place, found: Option<Found>) -> Place
     }
 }
 
-/// A place with what is found in it. In what stands last of a file that ends too soon nothing is looked for.
+/// A place with what is found in it.
 fn looked_through(
     alloc: Global,
     file: &[u8],
+    beside: &[u8],
     refusal: &Refusal,
     place: Place,
 ) -> Result<Place, OutOfMemory>
@@ -209,16 +299,75 @@ fn looked_through(
     ensures mark { IfOk result HasMark }
 {
     if place.is_last {
-        return Ok(place);
+        return Ok(with_found(place, found_in_last(file, refusal, &place.range)));
     }
-    let found = found_in(alloc, file, refusal, &place.range)?;
+    let found = found_in(alloc, file, beside, refusal, &place.range)?;
     Ok(with_found(place, found))
 }
 
-/// The place that a refusal speaks of, or the last before it, where the file ends too soon.
+/// What is found of the places that are looked for in a whole file.
+fn found_anywhere(
+    alloc: Global,
+    file: &[u8],
+    beside: &[u8],
+    refusal: &Refusal,
+) -> Result<Option<Found>, OutOfMemory>
+    ensures within { IfOk result (λ o. IfSome o (λ found. IsRange file.now found.range)) }
+    ensures some { IfOk result (λ o. IfSome o (λ found. pointer_of refusal.now ≡ Pointer.Somewhere)) }
+{
+    match refusal {
+        Refusal::TopUnclear { count } if *count > 0 => possible_tops(alloc, file),
+        Refusal::NoInstance {
+            role: Role::Clock,
+            entry,
+        } => Ok(missing_port(file, *entry)),
+        Refusal::BadCell { entry, rule } => cell_fault(alloc, file, *entry, *rule),
+        Refusal::BadClock { entry, rule } => Ok(clock_fault(file, *entry, *rule)),
+        Refusal::CombinationalLoop { arcs } => Ok(arc_lines(file, arcs.items())),
+        Refusal::NoPhase { element } => clockless(alloc, file, beside, *element),
+        Refusal::PathRange { element, bit } => long_way(alloc, file, *element, *bit),
+        _ => Ok(None),
+    }
+}
+
+/// What is found, as a place.
+fn place_found(found: Found) -> Place
+    ensures range { result.range ≡ found.range }
+    ensures mark { result.mark ≡ found.range }
+    ensures last { result.is_last ≡ false }
+{
+    Place {
+        range: found.range,
+        is_last: false,
+        mark: found.range,
+        fault: Some(found.fault),
+    }
+}
+
+/// The place of a refusal that is looked for in the whole file.
+fn place_anywhere(
+    alloc: Global,
+    file: &[u8],
+    beside: &[u8],
+    refusal: &Refusal,
+) -> Result<Option<Place>, OutOfMemory>
+    requires { HasNoPlace file.now refusal.now }
+    ensures some { IfOk result (λ o. IfSome o (IsPlace file.now refusal.now)) }
+    ensures within { IfOk result (λ o. IfSome o (λ place. place.mark.from ≤ length file.now)) }
+    ensures none { IfOk result (λ o. IfNone o (HasNoPlace file.now refusal.now)) }
+{
+    match found_anywhere(alloc, file, beside, refusal)? {
+        Some(found) => Ok(Some(place_found(found))),
+        None => Ok(None),
+    }
+}
+
+/// The place that a refusal speaks of, or the last before it, where the file ends too soon. What is marked of it may be
+/// found by the help of another file.
 pub(crate) fn place_of(
     alloc: Global,
     file: &[u8],
+    beside: &[u8],
     refusal: &Refusal,
 ) -> Result<Option<Place>, OutOfMemory>
     ensures some { IfOk result (λ o. IfSome o (IsPlace file.now refusal.now)) }
@@ -226,8 +375,8 @@ pub(crate) fn place_of(
     ensures none { IfOk result (λ o. IfNone o (HasNoPlace file.now refusal.now)) }
 {
     match place_at(file, pointer_of(refusal)) {
-        Some(place) => Ok(Some(looked_through(alloc, file, refusal, place)?)),
-        None => Ok(None),
+        Some(place) => Ok(Some(looked_through(alloc, file, beside, refusal, place)?)),
+        None => place_anywhere(alloc, file, beside, refusal),
     }
 }
 

@@ -1,13 +1,19 @@
 //! What a refusal is, in a line.
 
-use crate::cases::{Case, first_word, is_last, text_name};
-use crate::counts::put_count;
-use crate::files::{name_at, name_of, named};
+use crate::cases::{Case, first_word, is_last, marked_name, text_name};
+use crate::clocks::put_unclocked;
+use crate::counts::{put_count, put_many};
+use crate::descriptions::put_description;
+use crate::details::put_named;
+use crate::files::name_of;
 use crate::places::fault_of;
 use crate::writing::put_number;
-use mintc_text::limits::MOST_TOLD;
+use mintc_text::limits::{
+    MOST_ARCS, MOST_BOUNDS, MOST_DEPTH, MOST_ELEMENTS, MOST_INNER, MOST_LEAVES, MOST_PAIRS,
+    MOST_PHASES, MOST_SCOPES, MOST_SLACK, MOST_TOLD,
+};
 use mintc_text::{Bytes, Kind, Lines, OutOfMemory, Refusal, Role};
-use mintcx_finders::{Class, Fault, name_of as name_of_range};
+use mintcx_finders::{Class, Fault, MOST_PLACES, Places, bytes_of, name_of as name_of_range};
 use std::alloc::Global;
 
 /// Writes what a text is that is out of form, or ends too soon.
@@ -57,12 +63,118 @@ fn put_twice(out: &mut Lines, case: &Case<'_>) -> Result<(), OutOfMemory> {
     }
 }
 
+/// Writes that a bit is driven twice.
+fn put_driven(out: &mut Lines, case: &Case<'_>) -> Result<(), OutOfMemory> {
+    let Some(Fault::Driven { earlier }) = fault_of(case.place) else {
+        return out.put(b"this statement drives a bit that has a driver already");
+    };
+    out.put(b"`")?;
+    out.put(name_of_range(case.file, &earlier))?;
+    out.put(b"` has two drivers")
+}
+
+/// Writes the names of modules, `..` behind them where there are more than those that are found.
+fn put_modules(
+    out: &mut Lines,
+    file: &[u8],
+    modules: &Places,
+    count: u32,
+) -> Result<(), OutOfMemory> {
+    let mut before: &[u8] = b": `";
+    for module in modules {
+        if let Some(name) = module {
+            out.put(before)?;
+            out.put(name_of_range(file, name))?;
+            out.put(b"`")?;
+            before = b", `";
+        }
+    }
+    if count as usize > MOST_PLACES {
+        out.put(b", ..")?;
+    }
+    Ok(())
+}
+
+/// Writes how many modules may be the top, and which.
+fn put_tops(
+    alloc: Global,
+    out: &mut Lines,
+    case: &Case<'_>,
+    count: u32,
+) -> Result<(), OutOfMemory> {
+    put_many(alloc, out, u64::from(count), b"module", b"modules")?;
+    out.put(b" may be the top")?;
+    match fault_of(case.place) {
+        Some(Fault::Tops { modules }) => put_modules(out, case.file, &modules, count),
+        _ => Ok(()),
+    }
+}
+
 /// The name of the module that has itself inside; none where it isn't found.
 fn ring_name<'a>(case: &Case<'a>) -> &'a [u8] {
     match fault_of(case.place) {
         Some(Fault::Ring { module, .. }) => name_of_range(case.file, &module),
         _ => b"",
     }
+}
+
+/// Writes that a module doesn't have a port, or a cell a pin.
+fn put_no_port(out: &mut Lines, case: &Case<'_>) -> Result<(), OutOfMemory> {
+    match fault_of(case.place) {
+        Some(Fault::NoPort { module, .. }) => {
+            put_named(out, b"module", name_of_range(case.file, &module))?;
+            put_named(out, b" has no port", marked_name(case))
+        }
+        Some(Fault::NoPin { cell }) => {
+            put_named(out, b"cell", name_of_range(case.file, &cell))?;
+            put_named(out, b" has no pin", marked_name(case))
+        }
+        _ => out.put(b"this statement names a pin or port that isn't there"),
+    }
+}
+
+/// Writes that a path takes too long, and from where to where it leads.
+fn put_long(out: &mut Lines, case: &Case<'_>) -> Result<(), OutOfMemory> {
+    out.put(b"a path")?;
+    if let Some(Fault::Long { way }) = fault_of(case.place) {
+        if let Some(first) = way.names[0] {
+            put_named(out, b" from", bytes_of(case.file, &first))?;
+            put_named(out, b" to", bytes_of(case.file, &way.last))?;
+        }
+    }
+    out.put(b" takes more than 1 us")
+}
+
+/// Writes that what is connected is wider or narrower than its port.
+fn put_width(alloc: Global, out: &mut Lines, case: &Case<'_>) -> Result<(), OutOfMemory> {
+    let Some(Fault::Width { port, bits, wanted }) = fault_of(case.place) else {
+        return out.put(b"the widths in this statement don't fit");
+    };
+    put_many(alloc, out, bits, b"bit is", b"bits are")?;
+    put_named(out, b" connected to port", name_of_range(case.file, &port))?;
+    out.put(b", which has ")?;
+    put_count(alloc, out, wanted)
+}
+
+/// Writes which pins a cell doesn't have.
+fn put_pins(out: &mut Lines, case: &Case<'_>) -> Result<(), OutOfMemory> {
+    let Some(
+        Fault::Pins {
+            cell,
+            first,
+            last,
+            ..
+        },
+    ) = fault_of(case.place)
+    else {
+        return out.put(b"the delays speak of pins that their cell doesn't have");
+    };
+    put_named(out, b"cell", bytes_of(case.file, &cell))?;
+    let Some(last) = last else {
+        return put_named(out, b" has no input", bytes_of(case.file, &first));
+    };
+    put_named(out, b" has no way from", bytes_of(case.file, &first))?;
+    put_named(out, b" to", bytes_of(case.file, &last))
 }
 
 /// What is wrong with a statement.
@@ -80,23 +192,9 @@ fn put_statement(out: &mut Lines, case: &Case<'_>) -> Result<(), OutOfMemory> {
             out.put(b" has itself inside")
         }
         Refusal::NameTwice { .. } => put_twice(out, case),
-        Refusal::NoPin { .. } => out.put(b"this statement names a pin or port that isn't there"),
-        Refusal::Width { .. } => out.put(b"the widths in this statement don't fit"),
-        _ => out.put(b"this statement drives a bit that has a driver already"),
+        Refusal::NoPin { .. } => put_no_port(out, case),
+        _ => put_driven(out, case),
     }
-}
-
-/// Writes a count of what may be one or many.
-fn put_many(
-    alloc: Global,
-    out: &mut Lines,
-    count: u64,
-    one: &[u8],
-    many: &[u8],
-) -> Result<(), OutOfMemory> {
-    put_count(alloc, out, count)?;
-    out.put(b" ")?;
-    out.put(if count == 1 { one } else { many })
 }
 
 /// What things of a kind are called.
@@ -114,6 +212,23 @@ fn kind_name(kind: Kind) -> &'static [u8] {
     }
 }
 
+/// How many things of a kind are taken. Where there are no more elements than runs take, it is a run for slacks, which
+/// takes fewer.
+fn most_of(kind: Kind, count: u64) -> usize {
+    match kind {
+        Kind::Scopes => MOST_SCOPES,
+        Kind::Depth => MOST_DEPTH,
+        Kind::Leaves => MOST_LEAVES,
+        Kind::Inner => MOST_INNER,
+        Kind::Phases => MOST_PHASES,
+        Kind::Elements if count <= MOST_ELEMENTS as u64 => MOST_SLACK,
+        Kind::Elements => MOST_ELEMENTS,
+        Kind::Arcs => MOST_ARCS,
+        Kind::Bounds => MOST_BOUNDS,
+        Kind::Pairs => MOST_PAIRS,
+    }
+}
+
 /// Writes that there are more things of a kind than are taken.
 fn put_limit(alloc: Global, out: &mut Lines, kind: Kind, count: u64) -> Result<(), OutOfMemory> {
     out.put(b"the design has ")?;
@@ -123,87 +238,16 @@ fn put_limit(alloc: Global, out: &mut Lines, kind: Kind, count: u64) -> Result<(
     }
     out.put(b" ")?;
     out.put(kind_name(kind))?;
-    out.put(b", more than are taken")
-}
-
-/// Which rule a cell fails.
-fn cell_rule(rule: u32) -> &'static [u8] {
-    match rule {
-        0 => b" is no TOML",
-        1 => b" has something else than cells",
-        2 => b": a cell has no kind, or a name that is none",
-        3 => b": a cell has a key that its kind doesn't have",
-        4 => b": pins of a cell are missing or out of form",
-        5 => b": a cell has a pin twice",
-        6 => b": a number of a cell is no whole number, or out of its limit",
-        7 => b": a max of a cell is below its min",
-        _ => b": `active`, `edge` or `invert` of a cell is none of its values",
-    }
-}
-
-/// Which rule a clock fails that is about no item.
-fn clock_rule(rule: u32) -> &'static [u8] {
-    match rule {
-        0 => b" is no TOML",
-        1 => b" has something else than `top`, phases, bounds, inputs and outputs",
-        _ => b" has no phase",
-    }
-}
-
-/// What items are called that a rule is about.
-fn item_name(rule: u32) -> &'static [u8] {
-    match rule {
-        3 | 4 => b"phase ",
-        5 => b"bound ",
-        6 => b"input ",
-        _ => b"output ",
-    }
-}
-
-/// Which rule an item of a clock fails.
-fn item_rule(rule: u32) -> &'static [u8] {
-    match rule {
-        4 => b" has the name of an earlier one, or its port and level",
-        5 => b" lacks a key, has one that isn't in form, or names no phase",
-        _ => b" lacks a key, has another, or one isn't in form",
-    }
-}
-
-/// Writes which rule an item of a clock fails.
-fn put_item(out: &mut Lines, entry: u32, rule: u32) -> Result<(), OutOfMemory> {
-    out.put(item_name(rule))?;
-    put_number(out, u64::from(entry))?;
-    out.put(item_rule(rule))
-}
-
-/// Writes what is wrong with a description.
-fn put_description(out: &mut Lines, case: &Case<'_>) -> Result<(), OutOfMemory> {
-    match case.refusal {
-        Refusal::BadCell { rule, .. } => {
-            out.put(named(case.inputs, Role::Cells, b"the description"))?;
-            out.put(cell_rule(*rule))
-        }
-        Refusal::BadClock { entry, rule } if *rule > 2 => put_item(out, *entry, *rule),
-        Refusal::BadClock { rule, .. } => {
-            out.put(named(case.inputs, Role::Clock, b"the clock description"))?;
-            out.put(clock_rule(*rule))
-        }
-        Refusal::NoInstance {
-            role: Role::Clock,
-            ..
-        } => out.put(b"the clock description names a port that the top doesn't have"),
-        _ => out.put(b"the delays speak of an instance that isn't there"),
-    }
+    out.put(b", and at most ")?;
+    put_count(alloc, out, most_of(kind, count) as u64)?;
+    out.put(b" are taken")
 }
 
 /// Writes what is wrong with the design, counted.
-fn put_counted(alloc: Global, out: &mut Lines, refusal: &Refusal) -> Result<(), OutOfMemory> {
-    match refusal {
+fn put_counted(alloc: Global, out: &mut Lines, case: &Case<'_>) -> Result<(), OutOfMemory> {
+    match case.refusal {
         Refusal::TopUnclear { count: 0 } => out.put(b"no module may be the top"),
-        Refusal::TopUnclear { count } => {
-            put_many(alloc, out, u64::from(*count), b"module", b"modules")?;
-            out.put(b" may be the top")
-        }
+        Refusal::TopUnclear { count } => put_tops(alloc, out, case, *count),
         Refusal::CombinationalLoop { arcs } => {
             out.put(b"data can run round without a latch or flop, through ")?;
             put_many(alloc, out, arcs.items().len() as u64, b"arc", b"arcs")
@@ -215,7 +259,7 @@ fn put_counted(alloc: Global, out: &mut Lines, refusal: &Refusal) -> Result<(), 
             put_number(out, u64::from(*schedule))
         }
         Refusal::Limit { kind, count } => put_limit(alloc, out, *kind, *count),
-        _ => out.put(b"a path takes more than 1 us"),
+        _ => put_long(out, case),
     }
 }
 
@@ -232,12 +276,25 @@ fn put_corner(out: &mut Lines, case: &Case<'_>, file: u32) -> Result<(), OutOfMe
     out.put(b" is refused")
 }
 
+/// Whether a text ends too soon, and not within an entry or before the first.
+fn has_ended(case: &Case<'_>) -> bool {
+    is_last(case.place)
+        && fault_of(case.place).is_none()
+        && !matches!(
+            case.refusal,
+            Refusal::Syntax {
+                role: Role::Delays,
+                entry: 0 | 1
+            }
+        )
+}
+
 /// What a refusal is, in a line.
 pub(crate) fn what_of(alloc: Global, case: &Case<'_>) -> Result<Bytes, OutOfMemory> {
     let mut lines = Lines::new(alloc);
     let out = &mut lines;
     match case.refusal {
-        Refusal::Syntax { role, .. } => put_syntax(out, *role, is_last(case.place))?,
+        Refusal::Syntax { role, .. } => put_syntax(out, *role, has_ended(case))?,
         Refusal::TooLong { .. } => {
             out.put(name_of(case.inputs, case.refusal))?;
             out.put(b" has more bytes than are read")?;
@@ -246,20 +303,20 @@ pub(crate) fn what_of(alloc: Global, case: &Case<'_>) -> Result<Bytes, OutOfMemo
         | Refusal::NoModule { .. }
         | Refusal::Recursive { .. }
         | Refusal::NoPin { .. }
-        | Refusal::Width { .. }
         | Refusal::TwoDrivers { .. } => put_statement(out, case)?,
+        Refusal::Width { .. } => put_width(alloc, out, case)?,
         Refusal::BadCell { .. } | Refusal::BadClock { .. } | Refusal::NoInstance { .. } => {
-            put_description(out, case)?
+            put_description(alloc, out, case)?
         }
-        Refusal::NoArc { .. } => out.put(b"the delays speak of pins that their cell doesn't have")?,
+        Refusal::NoArc { .. } => put_pins(out, case)?,
         Refusal::Negative { .. } => out.put(b"a delay below 0")?,
         Refusal::Range { .. } => out.put(b"a number above 1 us")?,
-        Refusal::NoPhase { .. } => out.put(b"a latch or flop is on no phase")?,
+        Refusal::NoPhase { .. } => put_unclocked(out, case)?,
         Refusal::TopUnclear { .. }
         | Refusal::CombinationalLoop { .. }
         | Refusal::Limit { .. }
         | Refusal::PhaseMismatch { .. }
-        | Refusal::PathRange { .. } => put_counted(alloc, out, case.refusal)?,
+        | Refusal::PathRange { .. } => put_counted(alloc, out, case)?,
         Refusal::Corner { file } => put_corner(out, case, *file)?,
     }
     Ok(Bytes::new(lines.into_bytes()))

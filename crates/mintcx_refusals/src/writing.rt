@@ -3,7 +3,7 @@ ghost use Rattle.std.specs.Prelude.{◌≡◌, ◌++◌, ◌∷◌, [], IfOk, On
 ghost use Rattle.mintc_text.specs.Refusals.{refusal_number};
 ghost use Rattle.mintcx_refusals.specs.Messages.{arrow_text, excerpt_text, file_text, head, line_text};
 ghost use Rattle.mintcx_refusals.specs.Messages.{corner_note, marks_text, note, note_text, own_line};
-ghost use Rattle.mintcx_refusals.specs.Messages.{place_text, short_file, short_place, spot_text};
+ghost use Rattle.mintcx_refusals.specs.Messages.{padded, place_text, short_file, short_place, spot_text};
 
 use mintc_report::refusal_text;
 use mintc_text::{Bytes, Lines, OutOfMemory, Refusal};
@@ -117,7 +117,7 @@ pub(crate) fn put_corner_note(
 }
 
 /// Writes a byte so many times.
-pub(crate) fn put_times(lines: &mut Lines, byte: u8, count: usize) -> Result<(), OutOfMemory>
+pub fn put_times(lines: &mut Lines, byte: u8, count: usize) -> Result<(), OutOfMemory>
     ensures { OnOk result (lines.new ≡ lines.old ++ replicate count byte) }
 {
     for _turn in 0..count {
@@ -138,11 +138,26 @@ fn put_spot(lines: &mut Lines, name: &[u8], spot: Spot) -> Result<(), OutOfMemor
 }
 
 /// The digits of a number.
-pub(crate) fn digits_of(alloc: Global, number: usize) -> Result<Bytes, OutOfMemory>
+pub fn digits_of(alloc: Global, number: usize) -> Result<Bytes, OutOfMemory>
     ensures { IfOk result (λ digits. digits ≡ decimal number) }
 {
     let mut lines = Lines::new(alloc);
     put_number(&mut lines, number as u64)?;
+    Ok(Bytes::new(lines.into_bytes()))
+}
+
+/// The digits of a number behind so many blanks that both are as wide as a margin.
+pub(crate) fn padded(alloc: Global, margin: usize, number: usize) -> Result<Bytes, OutOfMemory>
+    ensures { IfOk result (λ digits. digits ≡ padded margin number) }
+{
+    let digits = digits_of(alloc, number)?;
+    let mut lines = Lines::new(alloc);
+    put_times(
+        &mut lines,
+        b' ',
+        margin.saturating_sub(digits.items().len()),
+    )?;
+    lines.put(digits.items())?;
     Ok(Bytes::new(lines.into_bytes()))
 }
 
@@ -184,18 +199,18 @@ fn put_marks(
     lines.put(b"\n")
 }
 
-/// Writes an excerpt of a file with its marks and their label.
+/// Writes an excerpt of a file behind a margin, with its marks and their label.
 fn put_excerpt(
     alloc: Global,
     lines: &mut Lines,
+    margin: usize,
     name: &[u8],
     excerpt: &Excerpt,
     label: &[u8],
 ) -> Result<(), OutOfMemory>
-    ensures { OnOk result (lines.new ≡ lines.old ++ excerpt_text name.now excerpt.now label.now) }
+    ensures { OnOk result (lines.new ≡ lines.old ++ excerpt_text margin name.now excerpt.now label.now) }
 {
-    let number = digits_of(alloc, excerpt.spot.line)?;
-    let margin = number.items().len();
+    let number = padded(alloc, margin, excerpt.spot.line)?;
     put_arrow(lines, margin, name, excerpt.spot)?;
     put_line(lines, number.items(), excerpt.line.items())?;
     put_marks(lines, margin, excerpt, label)
@@ -214,17 +229,18 @@ fn put_file(lines: &mut Lines, name: &[u8]) -> Result<(), OutOfMemory>
 }
 
 /// Writes a place: with an excerpt, or else its file alone.
-pub(crate) fn put_place(
+pub fn put_place(
     alloc: Global,
     lines: &mut Lines,
+    margin: usize,
     name: &[u8],
     excerpt: &Option<Excerpt>,
     label: &[u8],
 ) -> Result<(), OutOfMemory>
-    ensures { OnOk result (lines.new ≡ lines.old ++ place_text name.now excerpt.now label.now) }
+    ensures { OnOk result (lines.new ≡ lines.old ++ place_text margin name.now excerpt.now label.now) }
 {
     match excerpt {
-        Some(excerpt) => put_excerpt(alloc, lines, name, excerpt, label),
+        Some(excerpt) => put_excerpt(alloc, lines, margin, name, excerpt, label),
         None => put_file(lines, name),
     }
 }

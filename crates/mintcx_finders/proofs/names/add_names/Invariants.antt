@@ -1,4 +1,4 @@
-use Rattle.std.proofs.Common.{◌≤◌, ◌-◌, length}
+use Rattle.std.proofs.Common.{◌-◌, length}
 use Rattle.mintcx_finders.proofs.names.add_names.Given as goal
 
 -- each turn goes on

@@ -1,0 +1,6 @@
+use Rattle.std.proofs.Common.{◌-◌, length}
+use Rattle.mintcx_finders.proofs.declared.ports_named.Given as goal
+
+-- each turn goes on
+abbrev pub decreases-loop-entry : goal.decreases-loop-entry
+decreases-loop-entry l = length l.clock - l.from

@@ -1,0 +1,6 @@
+use Rattle.std.proofs.Common.{◌-◌, length}
+use Rattle.mintcx_finders.proofs.drives.add_outputs.Given as goal
+
+-- each turn goes on
+abbrev pub decreases-loop-name : goal.decreases-loop-name
+decreases-loop-name l = length l.text - l.at

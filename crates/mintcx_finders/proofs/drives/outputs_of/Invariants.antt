@@ -1,0 +1,6 @@
+use Rattle.std.proofs.Common.{◌-◌, length}
+use Rattle.mintcx_finders.proofs.drives.outputs_of.Given as goal
+
+-- each turn goes on
+abbrev pub decreases-loop-first : goal.decreases-loop-first
+decreases-loop-first l = length l.text - l.from

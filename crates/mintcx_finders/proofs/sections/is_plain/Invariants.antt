@@ -1,0 +1,6 @@
+use Rattle.std.proofs.Common.{◌-◌, length}
+use Rattle.mintcx_finders.proofs.sections.is_plain.Given as goal
+
+-- each turn goes on
+abbrev pub decreases-loop-line : goal.decreases-loop-line
+decreases-loop-line l = length l.body - l.at

@@ -1,0 +1,6 @@
+use Rattle.std.proofs.Common.{◌-◌, length}
+use Rattle.mintcx_finders.proofs.sections.nth_section.Given as goal
+
+-- each turn goes on
+abbrev pub decreases-loop-line : goal.decreases-loop-line
+decreases-loop-line l = length l.text - l.at
