@@ -12,8 +12,6 @@ mod decimal;
 mod exact;
 mod frequency;
 mod laws;
-#[cfg(test)]
-mod tests;
 mod unit;
 
 pub use amount::put_amount;

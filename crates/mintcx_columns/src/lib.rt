@@ -11,8 +11,6 @@ mod cells;
 mod laws;
 mod lines;
 mod table;
-#[cfg(test)]
-mod tests;
 
 pub use cells::{Column, Side};
 pub use laws::lines_keep_cells;

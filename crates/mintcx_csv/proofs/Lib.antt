@@ -1,6 +1,6 @@
 mod ChainLaws
-mod OptimumLaws
-mod PlaceLaws
+mod CycleLaws
+mod PassLaws
 mod ReadingLaws
 mod SpanLaws
 mod TableLaws

@@ -78,6 +78,11 @@ pub whole_table : (begun old new : List ℕ) (head : List (List ℕ)) (rows : Li
     new ≡ text_of (head ∷ rows)
 whole_table begun old new head rows e g h = rw (h, g, e) refl
 
+-- a head line and one row
+pub two_rows : (begun old new : List ℕ) (head row : List (List ℕ)) → begun ≡ [] → old ≡ begun ++ row_text by_rfc head → new ≡ old ++ row_text by_rfc row →
+    new ≡ text_of (head ∷ row ∷ [])
+two_rows begun old new head row e g h = whole_table begun old new head (row ∷ []) e g (h ∙ ap (λ (t : List ℕ). old ++ t) (sym (append-nil (row_text by_rfc row))))
+
 -- four fields as a row
 pub four_fields : {a b c d p q r s : List ℕ} → a ≡ p → b ≡ q → c ≡ r → d ≡ s → a ∷ b ∷ c ∷ d ∷ [] ≡ p ∷ q ∷ r ∷ s ∷ []
 four_fields e f g h = rw (e, f, g, h) refl

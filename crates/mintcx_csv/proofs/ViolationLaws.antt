@@ -1,21 +1,12 @@
--- Places of violations, and the fields of their rows.
-use Rattle.std.proofs.Common.{◌<◌, ◌∷◌, [], ℕ, ℤ, pos, List, Bool, true, false, length, map, take, arith}
-use Rattle.std.specs.Prelude.{All, if◌then◌else◌, int_lt}
-use Rattle.std.specs.List.{range_with_len}
-use Rattle.std.proofs.lemmas.List.Elements.{All-map}
-use Rattle.std.proofs.lemmas.List.Sorted.{All-permutation}
+-- The fields of rows of violations.
+use Rattle.std.proofs.Common.{◌∷◌, [], ℕ, ℤ, pos, List, Bool, true, false, take}
+use Rattle.std.specs.Prelude.{if◌then◌else◌, int_lt}
 use Rattle.mintc_timing.specs.declared.violation.Violation.{Violation}
 use Rattle.mintc_timing.specs.Design.{Timing}
-use Rattle.mintcx_judgements.specs.Fails.{AreRanked, place_of, violation_at}
+use Rattle.mintcx_judgements.specs.Fails.{violation_at}
 use Rattle.mintcx_csv.specs.Tables.{shown_over}
 use Rattle.mintcx_csv.specs.Violations.{fail_record, fail_records}
-use Rattle.mintcx_csv.proofs.PlaceLaws.{All-range}
 use Rattle.mintcx_csv.proofs.TableLaws.{AllHaveSeveral, HasSeveral, made_of}
-
-pub ranked_inside : (vs : List Violation) (places : List (ℕ × ℤ × ℕ)) → AreRanked vs places → All (λ (p : ℕ × ℤ × ℕ). p.2 < length vs) places
-ranked_inside vs places h =
-    All-permutation (λ (p : ℕ × ℤ × ℕ). p.2 < length vs) (map (place_of vs) (range_with_len 0 (length vs))) places h.permutation
-    (All-map (λ (p : ℕ × ℤ × ℕ). p.2 < length vs) (place_of vs) (range_with_len 0 (length vs)) (All-range (λ n. n < length vs) 0 (length vs) (λ k low high. omega (arith, high))))
 
 -- a row of four fields has several with its last one and without
 some_shown : (b : Bool) (p q r t : List ℕ) → HasSeveral (take (if b then 4 else 3) (p ∷ q ∷ r ∷ t ∷ []))

@@ -8,16 +8,24 @@
 #![tactic(auto)]
 
 mod chains;
+mod corners;
+mod cycles;
 mod optimum;
-mod order;
-mod ranking;
+mod passes;
 mod records;
+mod safe;
 mod slacks;
 #[cfg(test)]
 mod tests;
+mod verdicts;
 mod violations;
 
 pub use chains::{chain_csv, hops_csv};
+pub use corners::corners_csv;
+pub use cycles::cycle_csv;
 pub use optimum::optimum_csv;
+pub use passes::pass_csv;
+pub use safe::safe_csv;
 pub use slacks::slack_csv;
+pub use verdicts::verdict_csv;
 pub use violations::fail_csv;

@@ -30,7 +30,11 @@ fn least_csv(
 }
 
 /// The table of the members of a chain that forbids every cycle time.
-fn never_csv(alloc: Global, system: &System, members: &[Member]) -> Result<Bytes, OutOfMemory>
+pub(crate) fn never_csv(
+    alloc: Global,
+    system: &System,
+    members: &[Member],
+) -> Result<Bytes, OutOfMemory>
     requires chain { IsChainInRange members.now }
     requires members { All (IsMember system.now) members.now }
     ensures { IfOk result (IsNeverTable system.now.flat members.now) }

@@ -5,27 +5,18 @@ ghost use Rattle.mintc_text.specs.Lines.{numeral_of};
 ghost use Rattle.mintc_timing.specs.Design.{element_count};
 ghost use Rattle.mintc_slack.specs.Answers.{AreOfPairs};
 ghost use Rattle.mintcx_frame.specs.Names.{element_name};
-ghost use Rattle.mintcx_slacks.specs.Slacks.{AreBySlack, delay_of};
+ghost use Rattle.mintcx_slacks.specs.Slacks.{AreBySlack};
 ghost use Rattle.mintcx_csv.specs.Records.{IsBetween, text_so_far};
 ghost use Rattle.mintcx_csv.specs.Slacks.{IsSlackTable, slack_fields, slack_record, slack_records};
 ghost use Rattle.mintcx_csv.specs.Tables.{IsTable, by_rfc};
 
-use crate::order::{Place, by_slack};
 use crate::records::{Records, no_records, numeral, put_record, text_of};
 use itoa::Buffer;
 use mintc_slack::Slacks;
 use mintc_text::{Bytes, OutOfMemory};
 use mintc_timing::System;
+use mintcx_slacks::{Place, by_slack, delay};
 use std::alloc::Global;
-
-/// How long the data of a pair takes at the most.
-fn delay(system: &System, pair: usize) -> i64
-    requires { pair < length system.now.pairs }
-    ensures { result ≡ delay_of system.now pair }
-{
-    let joined = system.pair(pair);
-    system.element(joined.from).dq_max + joined.max
-}
 
 /// The name of an element.
 fn element_name(system: &System, element: u32) -> &[u8]

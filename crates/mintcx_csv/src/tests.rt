@@ -3,10 +3,10 @@ ghost use Rattle.std.specs.Prelude.{OnOk};
 ghost use Rattle.mintcx_csv.specs.Records.{IsBetween};
 
 use crate::chains::put_chain_head;
-use crate::order::{Place, by_slack};
 use crate::records::{Records, no_records, put_over, text_of};
 use crate::slacks::{put_head, put_row};
 use mintc_text::{Bytes, OutOfMemory};
+use mintcx_slacks::{Place, by_slack};
 use std::alloc::Global;
 use std::process::Abort;
 

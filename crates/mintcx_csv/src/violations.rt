@@ -1,9 +1,6 @@
 //! The table of violations.
 ghost use Rattle.std.specs.Prelude.{◌≡◌, ◌<◌, ◌++◌, ℕ, ℤ, length, map, All, IfOk, OnOk};
 ghost use Rattle.csv.specs.Writing.{row_text};
-ghost use Rattle.mintc_timing.specs.Design.{element_count, phase_count};
-ghost use Rattle.mintc_timing.specs.Limits.{IsPhase};
-ghost use Rattle.mintcx_frame.specs.Names.{element_name, phase_name};
 ghost use Rattle.mintc_text.specs.Lines.{spaced};
 ghost use Rattle.mintcx_judgements.specs.Named.{AreNamed, IsNamed};
 ghost use Rattle.mintcx_csv.specs.Records.{IsBetween, text_so_far};
@@ -11,12 +8,12 @@ ghost use Rattle.mintcx_csv.specs.Tables.{IsTable, by_rfc, shown_over};
 ghost use Rattle.mintcx_csv.specs.Violations.{IsFailTable, both, fail_fields, fail_record, fail_records, from_of};
 ghost use Rattle.mintcx_csv.specs.Violations.{kind_word, of_text, ring_text};
 
-use crate::ranking::{Place, ranked};
 use crate::records::{Records, no_records, numeral, put_over, text_of};
 use itoa::Buffer;
 use mintc_text::{Bytes, Lines, OutOfMemory};
-use mintc_timing::{Broken, Flat, System, Violation};
-use mintcx_frame::put_number;
+use mintc_timing::{Broken, System, Violation};
+use mintcx_frame::{element_name, phase_name, put_number};
+use mintcx_judgements::{Place, ranked};
 use std::alloc::Global;
 
 /// How many columns the table has before that of the denominator.
@@ -37,22 +34,6 @@ fn kind_word(broken: &Broken) -> &'static [u8]
         Broken::Setup { .. } => b"setup",
         Broken::Hold { .. } => b"hold",
     }
-}
-
-/// The name of a phase, which is counted from 1.
-fn phase_name(flat: &Flat, phase: u32) -> &[u8]
-    requires { IsPhase (phase_count flat.now) phase }
-    ensures { result.now ≡ phase_name flat.now phase }
-{
-    flat.phases().items()[phase as usize - 1].bytes()
-}
-
-/// The name of an element.
-fn element_name(flat: &Flat, element: u32) -> &[u8]
-    requires { element < element_count flat.now }
-    ensures { result.now ≡ element_name flat.now element }
-{
-    flat.element(element).name.bytes()
 }
 
 /// The element from which a pair's data comes.

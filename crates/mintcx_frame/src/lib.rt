@@ -11,13 +11,11 @@ mod ends;
 mod names;
 mod phases;
 mod rows;
-#[cfg(test)]
-mod tests;
 mod view;
 
 pub use cells::{amount_cell, number_cell, put_number, put_time, time_cell, word_cell};
 pub use ends::{put_foot, put_head, put_subject};
-pub use names::{kind_on_phase, node_name, put_kind_on_phase, put_node};
+pub use names::{element_name, kind_on_phase, node_name, phase_name, put_kind_on_phase, put_node};
 pub use phases::put_phases;
 pub use rows::{put_more, shown_rows};
 pub use view::View;

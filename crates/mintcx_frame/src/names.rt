@@ -11,7 +11,7 @@ use mintc_timing::Flat;
 use std::alloc::Global;
 
 /// The name of a phase, which is counted from 1.
-pub(crate) fn phase_name(flat: &Flat, phase: u32) -> &[u8]
+pub fn phase_name(flat: &Flat, phase: u32) -> &[u8]
     requires { IsPhase (phase_count flat.now) phase }
     ensures { result.now ≡ phase_name flat.now phase }
 {
@@ -19,7 +19,7 @@ pub(crate) fn phase_name(flat: &Flat, phase: u32) -> &[u8]
 }
 
 /// The name of an element.
-fn element_name(flat: &Flat, element: u32) -> &[u8]
+pub fn element_name(flat: &Flat, element: u32) -> &[u8]
     requires { element < element_count flat.now }
     ensures { result.now ≡ element_name flat.now element }
 {

@@ -25,7 +25,7 @@ use Rattle.mintc_corners.specs.Joint.{AreCorners, side_by_side}
 use Rattle.mintc_corners.specs.Lifted.{widest}
 use Rattle.mintcx_joint.specs.Laws.{StagesAreLinks}
 use Rattle.mintcx_joint.specs.Shown.{corner_at, joint_stage, shown_by, wider, widest_corner}
-use Rattle.mintcx_joint.proofs.ShownLaws.{differ}
+use Rattle.mintcx_joint.proofs.SharedShownLaws.{differ}
 
 -- Two links take as much time and as many cycles.
 record HasNumbersOf (k own : Link) : Type 0 where

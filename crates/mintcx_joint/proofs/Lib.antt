@@ -1,5 +1,5 @@
 mod ClockLaws
 mod ExactLaws
-mod ShownLaws
+pub mod SharedShownLaws
 mod WrittenLaws
-mod TurnLaws
+pub mod SharedTurnLaws

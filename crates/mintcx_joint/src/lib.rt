@@ -19,4 +19,6 @@ mod text;
 
 pub use alone::Corners;
 pub use laws::stages_are_links;
+pub use ring::{Ring, joint_departures, joint_stages, member_at};
+pub use shown::{corner_of, own_stage};
 pub use text::corners_text;

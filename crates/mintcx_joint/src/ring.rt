@@ -14,18 +14,14 @@ use std::alloc::Global;
 
 /// The members of a chain with their stages, and the place of the one at which it begins.
 #[derive(Clone, Copy)]
-pub(crate) struct Ring<'a> {
-    pub(crate) members: &'a [CornerMember],
-    pub(crate) stages: &'a [Stage],
-    pub(crate) first: usize,
+pub struct Ring<'a> {
+    pub members: &'a [CornerMember],
+    pub stages: &'a [Stage],
+    pub first: usize,
 }
 
 /// The member of a place from the one at which a chain begins.
-pub(crate) fn member_at<'a>(
-    members: &'a [CornerMember],
-    first: usize,
-    at: usize,
-) -> &'a CornerMember
+pub fn member_at<'a>(members: &'a [CornerMember], first: usize, at: usize) -> &'a CornerMember
     requires first { first < length members.now }
     requires at { at < length members.now }
     ensures { result.now ≡ slice_index_or (turned first members.now) at result.now }
@@ -39,7 +35,7 @@ pub(crate) fn member_at<'a>(
 }
 
 /// The stages of the members of a chain, in their order.
-pub(crate) fn joint_stages(
+pub fn joint_stages(
     alloc: Global,
     systems: &[System],
     members: &[CornerMember],
@@ -57,10 +53,7 @@ pub(crate) fn joint_stages(
 }
 
 /// The departures of all corners, one after the other.
-pub(crate) fn joint_departures(
-    alloc: Global,
-    departures: &[Departures],
-) -> Result<Vec<i64>, OutOfMemory>
+pub fn joint_departures(alloc: Global, departures: &[Departures]) -> Result<Vec<i64>, OutOfMemory>
     ensures { IfOk result (λ all. all.items ≡ joint_departures departures.now) }
 {
     let mut all = Vec::new(alloc);

@@ -46,7 +46,7 @@ fn widest_corner(systems: &[System], phase: u32) -> usize
 
 /// The corner, counted from 0, that shows a member: its own. One of the clock is shown by the first corner, but a width
 /// by the first that asks for the greatest.
-pub(crate) fn corner_of(systems: &[System], member: &CornerMember) -> usize
+pub fn corner_of(systems: &[System], member: &CornerMember) -> usize
     requires { 1 ≤ length systems.now }
     ensures { result ≡ corner_of systems.now member.now }
 {
@@ -88,7 +88,7 @@ fn clock_stage(system: &System, member: &Member) -> Stage
 }
 
 /// The stage that a member stands for in the corner that shows it.
-pub(crate) fn own_stage(
+pub fn own_stage(
     alloc: Global,
     systems: &[System],
     member: &CornerMember,

@@ -2,7 +2,7 @@ mod BetweenLaws
 mod CauseLaws
 mod DataLaws
 mod NamedLaws
-mod PlaceLaws
+pub mod SharedPlaceLaws
 mod RoomLaws
 mod RuleLaws
 mod Sizes

@@ -82,7 +82,7 @@ fn put_count(lines: &mut Lines, count: usize) -> Result<(), OutOfMemory>
 
 /// The text of a fail: the cycle, and each violation with the numbers or the data that cause it: the rules of the clock
 /// and a loop as they stand, then the setups, then the holds, of each kind the worst first.
-#[tactic(auto, using(crate::proofs::PlaceLaws::ranked_inside))]
+#[tactic(auto, using(crate::proofs::SharedPlaceLaws::ranked_inside))]
 pub fn fail_text(
     alloc: Global,
     judged: &Judged<'_>,

@@ -26,7 +26,7 @@ pub struct Judged<'a> {
 
 /// Departures, and the pair into each element whose data comes last, or first.
 #[derive(Drop)]
-pub(crate) struct Causes<'a> {
+pub struct Causes<'a> {
     pub told: Told<'a>,
     pub late: &'a [i64],
     pub early: &'a [i64],
@@ -74,7 +74,7 @@ pub(crate) fn cycle_time(schedule: &Schedule) -> Fraction
 }
 
 /// What was judged, with the data that decides it.
-pub(crate) fn causes_of<'a>(
+pub fn causes_of<'a>(
     alloc: Global,
     judged: &Judged<'a>,
     unit: Unit,

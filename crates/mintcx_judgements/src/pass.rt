@@ -86,7 +86,7 @@ fn rooms_table(alloc: Global, causes: &Causes<'_>, places: &[Place]) -> Result<T
 }
 
 /// The text of a pass: the cycle, the phases, and the room that each setup and each hold leaves, the least setup first.
-#[tactic(auto, using(crate::proofs::PlaceLaws::by_room_inside))]
+#[tactic(auto, using(crate::proofs::SharedPlaceLaws::by_room_inside))]
 pub fn pass_text(alloc: Global, judged: &Judged<'_>, view: &View) -> Result<Bytes, OutOfMemory>
     requires in_range { IsInRange judged.now.schedule.now }
     requires phases { length judged.now.schedule.now.starts ≡ phase_count judged.now.system.now.flat }

@@ -7,8 +7,9 @@ use mintc_text::OutOfMemory;
 use mintc_timing::{Broken, Violation};
 use std::alloc::Global;
 
-/// A violation's place: its rank, its amount turned round where the worst comes first, and its number.
-pub(crate) type Place = (u32, i128, usize);
+/// A violation's place: its rank, its amount turned round where the worst comes first, and its number, counted from 0; or an
+/// element's: 0 where it has a room for its setup, that room, and its number.
+pub type Place = (u32, i128, usize);
 
 /// The rank of a violation: rules of the clock and loops, setups, holds.
 fn rank(broken: &Broken) -> u32
@@ -33,7 +34,7 @@ fn ahead(violation: &Violation) -> i128
 }
 
 /// The places of violations, in order.
-pub(crate) fn ranked(alloc: Global, violations: &[Violation]) -> Result<Vec<Place>, OutOfMemory>
+pub fn ranked(alloc: Global, violations: &[Violation]) -> Result<Vec<Place>, OutOfMemory>
     ensures { IfOk result (λ places. AreRanked violations.now places.items) }
 {
     let mut places = Vec::new(alloc);

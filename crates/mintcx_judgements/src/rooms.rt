@@ -11,7 +11,7 @@ use mintc_text::OutOfMemory;
 use std::alloc::Global;
 
 /// How much later the data of an element could be there, its setup kept. A flop to which no data comes has none.
-pub(crate) fn setup_room(causes: &Causes<'_>, element: u32) -> Option<i128>
+pub fn setup_room(causes: &Causes<'_>, element: u32) -> Option<i128>
     requires { element < element_count causes.now.told.system.now.flat }
     ensures value { result
         ≡ setup_room causes.now.told.system.now causes.now.told.schedule.now causes.now.late.now element }
@@ -27,7 +27,7 @@ pub(crate) fn setup_room(causes: &Causes<'_>, element: u32) -> Option<i128>
 }
 
 /// How much sooner its next data could come, its hold kept, where it has one and data comes.
-pub(crate) fn hold_room(causes: &Causes<'_>, element: u32) -> Option<i128>
+pub fn hold_room(causes: &Causes<'_>, element: u32) -> Option<i128>
     requires { element < element_count causes.now.told.system.now.flat }
     ensures value { result
         ≡ hold_room causes.now.told.system.now causes.now.told.schedule.now causes.now.early.now element }
@@ -53,7 +53,7 @@ fn place(element: u32, room: Option<i128>) -> Place
 }
 
 /// The places of the elements: those with a room for the setup, the least first, then the others.
-pub(crate) fn by_room(alloc: Global, causes: &Causes<'_>) -> Result<Vec<Place>, OutOfMemory>
+pub fn by_room(alloc: Global, causes: &Causes<'_>) -> Result<Vec<Place>, OutOfMemory>
     ensures { IfOk result (λ places. AreByRoom causes.now.told.system.now causes.now.told.schedule.now
         causes.now.late.now places.items) }
 {

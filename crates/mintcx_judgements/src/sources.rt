@@ -51,7 +51,7 @@ pub(crate) fn scaled(told: &Told<'_>, span: i64) -> i128
 }
 
 /// The departure of an element.
-pub(crate) fn departure(departures: &[i64], element: u32) -> i128
+pub fn departure(departures: &[i64], element: u32) -> i128
     ensures value { result ≡ departure departures.now element }
     ensures range { IsTerm result }
 {

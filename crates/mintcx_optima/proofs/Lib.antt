@@ -1,6 +1,6 @@
 mod ChainLaws
 mod FoundLaws
 mod HoldLaws
-mod OptimumLaws
+pub mod SharedOptimumLaws
 mod RingLaws
 mod WrittenLaws

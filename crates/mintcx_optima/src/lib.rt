@@ -21,5 +21,5 @@ pub use because::put_because;
 pub use counts::{put_counted, put_decided};
 pub use least::{cycle_of, unit_of};
 pub use optimum::{chain_of, never_of, optimum_text};
-pub use safe::safe_text;
+pub use safe::{safe_chain_of, safe_text};
 pub use short::cycle_text;

@@ -19,7 +19,7 @@ use mintcx_frame::{View, put_time};
 use std::alloc::Global;
 
 /// The stages of the members of a chain, from its beginning by departures.
-fn chain_of(
+pub fn safe_chain_of(
     alloc: Global,
     system: &System,
     departures: &[i64],
@@ -81,7 +81,7 @@ fn safe_never_of(
     requires members { All (IsSafeMember system.now) members.now }
     ensures { IfOk result (IsSafeNeverOf system.now.flat members.now view.now) }
 {
-    let stages = chain_of(alloc, system, &[], members)?;
+    let stages = safe_chain_of(alloc, system, &[], members)?;
     let mut lines = Lines::new(alloc);
     put_never(
         &mut lines,
@@ -116,7 +116,7 @@ pub fn safe_text(
             chain,
         } => {
             let departures = departures.items();
-            let stages = chain_of(alloc, system, departures, chain.items())?;
+            let stages = safe_chain_of(alloc, system, departures, chain.items())?;
             let decided = Decided {
                 schedule,
                 departures,

@@ -13,17 +13,14 @@ use Rattle.mintc_timing.specs.Paths.{input_of, output_of}
 use Rattle.mintc_certificate.specs.declared.members.Member.{Member}
 use Rattle.mintc_certificate.specs.declared.members.Member.TheVariants as member
 use Rattle.mintc_certificate.specs.CertificateText.{IsCounted}
-use Rattle.mintc_certificate.specs.declared.certificate.Certificate.TheVariants.{Least, Never}
-use Rattle.mintc_certificate.specs.Ranges.{IsLeastInRange}
-use Rattle.mintc_certificate.specs.Valid.{IsMember, IsValid, counts, ring}
+use Rattle.mintc_certificate.specs.Valid.{IsMember}
 use Rattle.mintc_certificate.proofs.SharedPathDelays.{Leads-inside}
 use Rattle.mintcx_chain.specs.declared.rows.Row.{Row}
 use Rattle.mintcx_chain.specs.declared.stages.Stage.{Stage}
 use Rattle.mintcx_chain.specs.Names.{IsShort}
-use Rattle.mintcx_chain.specs.Rows.{IsClocked, cycle_at, last_row, row_at, rows_of}
+use Rattle.mintcx_chain.specs.Rows.{cycle_at, last_row, row_at, rows_of}
 use Rattle.mintcx_chain.specs.Stages.{stage_of}
 use Rattle.mintcx_chain.specs.Sums.{cycles_of}
-use Rattle.mintcx_chain.specs.Turning.{turned}
 use Rattle.mintcx_optima.specs.Optimum.{AreStages}
 use Rattle.mintcx_reports.specs.Hops.{IsTraced}
 
@@ -94,18 +91,3 @@ pub rows_count : (design : Design) (s : Schedule) (d : List ℤ) (stages : List 
 rows_count design s d stages =
     length-append (map (row_at design s d stages) (range_with_len 0 (length stages))) (last_row design s d stages ∷ [])
     ∙ ap (λ n. n + 1) (length-map-range_with_len (row_at design s d stages) 0 (length stages))
-
--- what a valid certificate in its ranges keeps
-pub clocked : (t : Timing) (s : Schedule) (d : List ℤ) (chain : List Member) → IsValid t (Least s d chain) → IsLeastInRange s d chain → IsClocked t.flat s d
-clocked t s d chain valid range = record {
-  in_range = range.schedule_in;
-  phases = (valid counts).0;
-  departures = range.each;
-  elements = (valid counts).2;
-}
-
-pub members_of_least : (t : Timing) (s : Schedule) (d : List ℤ) (chain : List Member) → IsValid t (Least s d chain) → All (IsMember t) chain
-members_of_least t s d chain valid = (valid ring).0
-
-pub members_of_never : (t : Timing) (chain : List Member) → IsValid t (Never chain) → All (IsMember t) chain
-members_of_never t chain valid = (valid ring).0

@@ -13,8 +13,6 @@ mod laws;
 mod messages;
 mod named;
 mod obstacles;
-#[cfg(test)]
-mod tests;
 mod text;
 mod times;
 

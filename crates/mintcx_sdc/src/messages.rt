@@ -4,6 +4,14 @@ use crate::obstacles::Obstacle;
 use std::error::Error;
 use std::fmt;
 
+/// What is said of a name with a byte that Tcl reads otherwise.
+fn put_special<W: fmt::Write>(f: &mut fmt::Formatter<W>, what: &str, number: usize) -> fmt::Result {
+    write!(
+        f,
+        "{what} {number} has a byte of `*?\\{{}}`, which Tcl reads otherwise"
+    )
+}
+
 impl fmt::Display for Obstacle {
     fn fmt<W: fmt::Write>(&self, f: &mut fmt::Formatter<W>) -> fmt::Result {
         match *self {
@@ -12,14 +20,8 @@ impl fmt::Display for Obstacle {
                 "its times are over the denominator {den}; `mintcx schedule --cycle` gives whole femtoseconds"
             ),
             Obstacle::NoCycle => write!(f, "its cycle time is 0"),
-            Obstacle::PhaseName { phase } => write!(
-                f,
-                "the name of phase {phase} has a byte of `*?\\{{}}`, which Tcl reads otherwise"
-            ),
-            Obstacle::PhasePort { phase } => write!(
-                f,
-                "the port of phase {phase} has a byte of `*?\\{{}}`, which Tcl reads otherwise"
-            ),
+            Obstacle::PhaseName { phase } => put_special(f, "the name of phase", phase),
+            Obstacle::PhasePort { phase } => put_special(f, "the port of phase", phase),
             Obstacle::Start { phase, late } => {
                 write!(f, "phase {phase} starts {late} fs after the cycle ends")
             }
@@ -36,14 +38,8 @@ impl fmt::Display for Obstacle {
                 "phases {high} and {low} are on the levels of one port, and aren't each other's complement: \
                  phase {low} starts {late} fs after phase {high} ends, and both leave {rest} fs of the cycle"
             ),
-            Obstacle::Input { number } => write!(
-                f,
-                "listed input {number} has a byte of `*?\\{{}}`, which Tcl reads otherwise"
-            ),
-            Obstacle::Output { number } => write!(
-                f,
-                "listed output {number} has a byte of `*?\\{{}}`, which Tcl reads otherwise"
-            ),
+            Obstacle::Input { number } => put_special(f, "listed input", number),
+            Obstacle::Output { number } => put_special(f, "listed output", number),
         }
     }
 }

@@ -1,3 +1,3 @@
-mod PlaceLaws
+pub mod SharedPlaceLaws
 mod RestLaws
 mod Steps

@@ -14,13 +14,13 @@ const GREATEST_STEP: u64 = 1_000_000_000_000_000_000;
 
 /// A step of a histogram: its number, and how many femtoseconds it has.
 #[derive(Clone, Copy)]
-pub(crate) struct Step {
+pub struct Step {
     pub number: u32,
     pub femtoseconds: u64,
 }
 
 /// The greatest of some slacks.
-pub(crate) fn greatest(extra: &[i64]) -> u64
+pub fn greatest(extra: &[i64]) -> u64
     ensures value { result ≡ most_of extra.now }
     ensures few { result ≤ 10 ^ 19 }
 {
@@ -56,7 +56,7 @@ fn step_at(number: u32) -> u64
 }
 
 /// The least step of which twelve are as much as the greatest slack.
-pub(crate) fn step_for(greatest: u64) -> Step
+pub fn step_for(greatest: u64) -> Step
     requires { greatest ≤ 10 ^ 19 }
     ensures step { IsStep greatest result.number }
     ensures value { result.femtoseconds ≡ step_at result.number }
@@ -79,7 +79,7 @@ pub(crate) fn step_for(greatest: u64) -> Step
 }
 
 /// The bar of a slack: 0 for none, else by how many steps it is reached.
-pub(crate) fn bar(slack: u64, step: u64) -> u64
+pub fn bar(slack: u64, step: u64) -> u64
     requires { 1 ≤ step }
     ensures { result ≡ div_ceil slack step }
 {
@@ -96,7 +96,7 @@ fn is_of(slack: i64, step: u64, number: u64) -> bool
 
 /// How many slacks are of a bar.
 #[tactic(auto, using(crate::proofs::Steps::count_more))]
-pub(crate) fn count(extra: &[i64], step: u64, number: u64) -> usize
+pub fn count(extra: &[i64], step: u64, number: u64) -> usize
     requires some { 1 ≤ step }
     ensures value { result ≡ count_of step extra.now number }
     ensures few { result ≤ length extra.now }

@@ -80,7 +80,7 @@ fn bar_head(alloc: Global) -> Result<Names, OutOfMemory>
 
 /// How many slacks the fullest bar has, and at least 1.
 #[tactic(auto, using(crate::proofs::Steps::most_more))]
-fn fullest(extra: &[i64], step: Step, last: u64) -> usize
+pub fn fullest(extra: &[i64], step: Step, last: u64) -> usize
     requires some { 1 ≤ step.femtoseconds }
     requires few { last ≤ 12 }
     requires last { last ≡ div_ceil (most_of extra.now) step.femtoseconds }

@@ -5,8 +5,8 @@ ghost use Rattle.mintcx_slacks.specs.Slacks.{AreBySlack, greatest_slack, tight_c
 use mintc_text::OutOfMemory;
 use std::alloc::Global;
 
-/// A pair's place: its slack in femtoseconds and its number.
-pub(crate) type Place = (i64, usize);
+/// A pair's place: its slack in femtoseconds and its number, counted from 0.
+pub type Place = (i64, usize);
 
 /// The place of a pair.
 fn place(slack: i64, number: usize) -> Place
@@ -16,10 +16,10 @@ fn place(slack: i64, number: usize) -> Place
 }
 
 /// The places of pairs with these slacks, the least slack first.
-pub(crate) fn by_slack(alloc: Global, extra: &[i64]) -> Result<Vec<Place>, OutOfMemory>
+pub fn by_slack(alloc: Global, extra: &[i64]) -> Result<Vec<Place>, OutOfMemory>
     ensures { IfOk result (λ places. AreBySlack extra.now places.items) }
 {
-    let mut places = Vec::new(alloc);
+    let mut places = Vec::with_capacity(alloc, extra.len())?;
     for (number, slack) in extra.iter().enumerate() {
         places.push(place(*slack, number))?;
     }

@@ -22,8 +22,8 @@ pub(crate) fn whole(time: i64) -> Fraction
     Fraction::new(i128::from(time), 1)
 }
 
-/// How long the data of a pair takes at the most.
-fn delay(system: &System, pair: usize) -> i64
+/// How long the data of a pair takes at the most, in femtoseconds. Pairs are counted from 0.
+pub fn delay(system: &System, pair: usize) -> i64
     requires { pair < length system.now.pairs }
     ensures { result ≡ delay_of system.now pair }
 {

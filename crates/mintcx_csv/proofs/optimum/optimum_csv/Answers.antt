@@ -7,7 +7,7 @@ use Rattle.mintc_certificate.specs.Ranges.{IsCertificateInRange}
 use Rattle.mintc_certificate.specs.Valid.{IsMember, IsValid}
 use Rattle.mintcx_chain.specs.Rows.{IsClocked}
 use Rattle.mintcx_csv.specs.Chains.{IsLeastTable, IsOptimumTable}
-use Rattle.mintcx_csv.proofs.OptimumLaws.{clocked, members_of_least, members_of_never}
+use Rattle.mintcx_optima.proofs.SharedOptimumLaws.{clocked, members_of_least, members_of_never}
 use Rattle.mintcx_csv.proofs.optimum.optimum_csv.Goals as goal
 
 pub least_csv-requires-clause-clocked : goal.least_csv-requires-clause-clocked

@@ -2,7 +2,7 @@ use Rattle.std.proofs.Common.{subst}
 use Rattle.std.proofs.lemmas.Result.{IfOk-weaker}
 use Rattle.mintcx_csv.specs.Slacks.{slack_records}
 use Rattle.mintcx_csv.specs.Tables.{IsTable}
-use Rattle.mintcx_csv.proofs.PlaceLaws.{by_slack_inside}
+use Rattle.mintcx_slacks.proofs.SharedPlaceLaws.{by_slack_inside}
 use Rattle.mintcx_csv.proofs.slacks.least_csv.Goals as goal
 
 pub places_csv-requires : goal.places_csv-requires

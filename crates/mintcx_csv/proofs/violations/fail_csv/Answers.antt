@@ -1,4 +1,4 @@
-use Rattle.mintcx_csv.proofs.ViolationLaws.{ranked_inside}
+use Rattle.mintcx_judgements.proofs.SharedPlaceLaws.{ranked_inside}
 use Rattle.mintcx_csv.proofs.violations.fail_csv.Goals as goal
 
 pub ranked_csv-requires-clause-places : goal.ranked_csv-requires-clause-places

@@ -7,7 +7,7 @@ use Rattle.mintcx_optima.specs.Least.{cycle_of, unit_of}
 use Rattle.mintcx_joint.specs.Alone.{corners_table}
 use Rattle.mintcx_joint.specs.CornersText.{cornered, deciding_text}
 use Rattle.mintcx_joint.specs.Shown.{corner_at}
-use Rattle.mintcx_joint.proofs.ShownLaws.{first_design}
+use Rattle.mintcx_joint.proofs.SharedShownLaws.{first_design}
 use Rattle.mintcx_joint.proofs.WrittenLaws.{more}
 use Rattle.mintcx_joint.proofs.least.put_least.Goals as goal
 

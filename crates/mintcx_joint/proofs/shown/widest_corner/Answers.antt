@@ -1,6 +1,6 @@
 use Rattle.std.proofs.Common.{◌∙◌, ap, sym, ℕ}
 use Rattle.mintcx_joint.specs.Shown.{wider}
-use Rattle.mintcx_joint.proofs.TurnLaws.{wider_more}
+use Rattle.mintcx_joint.proofs.SharedTurnLaws.{wider_more}
 use Rattle.mintcx_joint.proofs.shown.widest_corner.Goals as goal
 
 pub loop-corner-preserved : goal.loop-corner-preserved

@@ -3,7 +3,7 @@ use Rattle.std.proofs.lemmas.List.{map_more}
 use Rattle.mintc_corners.specs.declared.members.CornerMember.{CornerMember}
 use Rattle.mintcx_chain.specs.Turning.{turned}
 use Rattle.mintcx_joint.specs.Chains.{chain_cells, chain_head}
-use Rattle.mintcx_joint.proofs.TurnLaws.{turned_length}
+use Rattle.mintcx_joint.proofs.SharedTurnLaws.{turned_length}
 use Rattle.mintcx_joint.proofs.tables.chain_table.Goals as goal
 
 pub loop-at-preserved : goal.loop-at-preserved

@@ -5,7 +5,7 @@ use Rattle.mintc_corners.specs.declared.members.CornerMember.{CornerMember}
 use Rattle.mintc_corners.specs.CornerOptimum.{IsCornerChainInRange, IsOptimumOf}
 use Rattle.mintcx_joint.specs.CornersText.{IsCornersText, IsLeastOf, IsNeverOf}
 use Rattle.mintcx_joint.specs.Shown.{IsShown}
-use Rattle.mintcx_joint.proofs.ShownLaws.{chain_of_never, shown_of_never, told_of_least}
+use Rattle.mintcx_joint.proofs.SharedShownLaws.{chain_of_never, shown_of_never, told_of_least}
 use Rattle.mintcx_joint.proofs.text.corners_text.Goals as goal
 
 pub least_of-requires-clause-in_range : goal.least_of-requires-clause-in_range

@@ -8,7 +8,7 @@ use Rattle.mintcx_frame.specs.Ends.{foot_text, head_text, unit_for}
 use Rattle.mintcx_frame.specs.Phases.{phases_text}
 use Rattle.mintcx_frame.specs.Rows.{more_text, shown_rows}
 use Rattle.mintcx_judgements.specs.Passes.{AreByRoom, rooms_grid, rooms_note, rooms_said}
-use Rattle.mintcx_judgements.proofs.PlaceLaws.{by_room_inside}
+use Rattle.mintcx_judgements.proofs.SharedPlaceLaws.{by_room_inside}
 use Rattle.mintcx_judgements.proofs.WrittenLaws.{pass_written}
 use Rattle.mintcx_judgements.proofs.pass.pass_text.Goals as goal
 

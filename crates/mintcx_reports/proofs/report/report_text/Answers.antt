@@ -7,7 +7,7 @@ use Rattle.mintc_certificate.specs.Ranges.{IsCertificateInRange}
 use Rattle.mintc_certificate.specs.Valid.{IsMember, IsValid}
 use Rattle.mintcx_chain.specs.Rows.{IsClocked}
 use Rattle.mintcx_reports.specs.Reports.{IsReportOf, IsReportText}
-use Rattle.mintcx_reports.proofs.ChainLaws.{clocked, members_of_least, members_of_never}
+use Rattle.mintcx_optima.proofs.SharedOptimumLaws.{clocked, members_of_least, members_of_never}
 use Rattle.mintcx_reports.proofs.report.report_text.Goals as goal
 
 pub least_of-requires-clause-clocked : goal.least_of-requires-clause-clocked

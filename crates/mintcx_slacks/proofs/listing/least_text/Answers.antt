@@ -1,7 +1,7 @@
 use Rattle.std.proofs.Common.{◌≡◌, ap, ◌∙◌}
 use Rattle.std.proofs.lemmas.Result.{IfOk-weaker}
 use Rattle.mintcx_slacks.specs.Slacks.{least_text}
-use Rattle.mintcx_slacks.proofs.PlaceLaws.{by_slack_inside}
+use Rattle.mintcx_slacks.proofs.SharedPlaceLaws.{by_slack_inside}
 use Rattle.mintcx_slacks.proofs.listing.least_text.Goals as goal
 
 pub places_text-requires-clause-places : goal.places_text-requires-clause-places

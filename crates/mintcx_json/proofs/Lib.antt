@@ -1,0 +1,6 @@
+mod SpanLaws
+mod NumberLaws
+mod PieceLaws
+mod DepthLaws
+mod RefusalLaws
+mod TextLaws
