@@ -1,0 +1,5 @@
+mod ChainLaws
+mod LaneLaws
+mod NoteLaws
+mod ScaleLaws
+mod WideLaws

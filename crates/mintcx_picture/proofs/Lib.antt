@@ -1,0 +1,3 @@
+mod WrittenLaws
+mod EscapeLaws
+mod PlaceLaws
