@@ -1,0 +1,2 @@
+mod StorageLaws
+mod TallyLaws

@@ -1,0 +1,19 @@
+-- Latches and flops that are counted one by one.
+use Rattle.std.proofs.Common.{◌≡◌, ◌≤◌, ◌+◌, ◌∙◌, ℕ, zero, suc, List, [], ◌∷◌, ◌++◌, length, sum_by, ap, refl, arith}
+use Rattle.std.specs.List.{range_with_len}
+use Rattle.std.proofs.lemmas.List.Sums.{sum_by-append}
+
+-- a number more of a range
+range_from : (a k : ℕ) → range_with_len a (suc k) ≡ range_with_len a k ++ (a + k) ∷ []
+range_from a zero = ap (λ n. n ∷ []) (omega arith)
+range_from a (suc k) = ap (λ xs. a ∷ xs) (range_from (a + 1) k ∙ ap (λ n. range_with_len (a + 1) k ++ n ∷ []) (omega arith))
+
+pub range_more : (k : ℕ) → range_with_len 0 (k + 1) ≡ range_with_len 0 k ++ k ∷ []
+range_more k =
+    let more : k + 1 ≡ suc k = omega arith in
+    let none : 0 + k ≡ k = omega arith in
+    ap (λ n. range_with_len 0 n) more ∙ range_from 0 k ∙ ap (λ n. range_with_len 0 k ++ n ∷ []) none
+
+-- a sum over one more number
+pub sum_more : (f : ℕ → ℕ) (k : ℕ) → sum_by f (range_with_len 0 (k + 1)) ≡ sum_by f (range_with_len 0 k) + f k
+sum_more f k = ap (sum_by f) (range_more k) ∙ sum_by-append f (range_with_len 0 k) (k ∷ []) ∙ omega arith

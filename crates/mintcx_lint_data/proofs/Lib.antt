@@ -1,0 +1,3 @@
+mod BackLaws
+mod DataLaws
+mod RangeLaws

@@ -1,0 +1,3 @@
+-- What contracts of public calls say:
+pub mod Back
+pub mod Data

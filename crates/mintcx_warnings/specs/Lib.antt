@@ -1,0 +1,6 @@
+-- What contracts of public calls say:
+pub mod Warnings
+pub mod Latches
+pub mod Outputs
+pub mod Data
+pub mod Clamped

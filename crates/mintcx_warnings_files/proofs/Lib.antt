@@ -1,0 +1,3 @@
+mod TextLaws
+mod TogetherLaws
+mod CellLaws

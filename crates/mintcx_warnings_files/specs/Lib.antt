@@ -1,0 +1,5 @@
+-- What contracts of public calls say:
+pub mod Parts
+pub mod Written
+-- What only the proofs need:
+pub mod Told
