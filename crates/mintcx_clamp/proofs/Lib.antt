@@ -1,0 +1,7 @@
+mod WordLaws
+mod StepLaws
+mod BesideLaws
+mod TreeLaws
+mod FormLaws
+mod ReadingLaws
+mod ExactLaws
