@@ -79,14 +79,14 @@ module _ (most : Most) where
   of_slacks (slacks.Least c e) = tt
   of_slacks slacks.Never = tt
 
-  of_judgement : (t : Timing) (s : Schedule) (view : View) (st : Status) (text : List ℕ) → IsJudgement t s view st text → IsOfCommand st
-  of_judgement t s view status.Done text h = tt
-  of_judgement t s view status.Found text h = tt
-  of_judgement t s view status.Refused text h = absurd h
-  of_judgement t s view status.Usage text h = absurd h
-  of_judgement t s view status.ReadFault text h = absurd h
-  of_judgement t s view status.WriteFault text h = absurd h
-  of_judgement t s view status.OutOfMemory text h = absurd h
+  of_judgement : (t : Timing) (s : Schedule) (told : Aspect) (view : View) (st : Status) (text : List ℕ) → IsJudgement t s told view st text → IsOfCommand st
+  of_judgement t s told view status.Done text h = tt
+  of_judgement t s told view status.Found text h = tt
+  of_judgement t s told view status.Refused text h = absurd h
+  of_judgement t s told view status.Usage text h = absurd h
+  of_judgement t s told view status.ReadFault text h = absurd h
+  of_judgement t s told view status.WriteFault text h = absurd h
+  of_judgement t s told view status.OutOfMemory text h = absurd h
 
   of_cycle : (found : AtCycle) → IsOfCommand (cycle_status found)
   of_cycle (at.Right s ds) = tt
@@ -96,7 +96,11 @@ module _ (most : Most) where
   of_optimise aspect.Whole t view st text (c, optimum, same, is_text) = subst IsOfCommand (sym same) (of_certificate c)
   of_optimise (aspect.Cycle cycle) t view st text (found, is_at, same, is_text) = subst IsOfCommand (sym same) (of_cycle found)
   of_optimise aspect.Histogram t view st text (c, optimum, same, is_text) = subst IsOfCommand (sym same) (of_certificate c)
+  of_optimise aspect.Clocks t view st text (c, optimum, same, is_text) = subst IsOfCommand (sym same) (of_certificate c)
+  of_optimise aspect.Object t view st text (c, optimum, same, is_text) = subst IsOfCommand (sym same) (of_certificate c)
   of_optimise aspect.Rows t view st text (c, optimum, same, is_text) = subst IsOfCommand (sym same) (of_certificate c)
+  of_optimise (aspect.CycleRows cycle) t view st text (found, is_at, same, is_text) = subst IsOfCommand (sym same) (of_cycle found)
+  of_optimise (aspect.CycleObject cycle) t view st text (found, is_at, same, is_text) = subst IsOfCommand (sym same) (of_cycle found)
   of_optimise (aspect.Schedule None) t view st text (c, optimum, same, is_text) = subst IsOfCommand (sym same) (of_certificate c)
   of_optimise (aspect.Schedule (Some cycle)) t view st text (found, is_at, same, is_text) = subst IsOfCommand (sym same) (of_cycle found)
 
@@ -112,19 +116,27 @@ module _ (most : Most) where
   of_verify aspect.Whole t c design view st text (v, is, same, is_text) = subst IsOfCommand (sym same) (of_verdict v)
   of_verify (aspect.Cycle cycle) t c design view st text (v, is, same, is_text) = subst IsOfCommand (sym same) (of_verdict v)
   of_verify aspect.Histogram t c design view st text (v, is, same, is_text) = subst IsOfCommand (sym same) (of_verdict v)
+  of_verify aspect.Clocks t c design view st text (v, is, same, is_text) = subst IsOfCommand (sym same) (of_verdict v)
+  of_verify aspect.Object t c design view st text (v, is, same, is_text) = subst IsOfCommand (sym same) (of_verdict v)
   of_verify aspect.Rows t c design view st text (v, is, same, is_text) = subst IsOfCommand (sym same) (of_verdict v)
+  of_verify (aspect.CycleRows cycle) t c design view st text (v, is, same, is_text) = subst IsOfCommand (sym same) (of_verdict v)
+  of_verify (aspect.CycleObject cycle) t c design view st text (v, is, same, is_text) = subst IsOfCommand (sym same) (of_verdict v)
   of_verify (aspect.Schedule cycle) t c design view st text (v, is, same, is_text) = subst IsOfCommand (sym same) (of_certified v c)
 
   of_report : (told : Aspect) (t : Timing) (view : View) (st : Status) (text : List ℕ) → IsToldReport t told view st text → IsOfCommand st
   of_report aspect.Rows t view st text (c, optimum, same, is_text) = subst IsOfCommand (sym same) (of_certificate c)
   of_report aspect.Whole t view st text (c, optimum, same, rest) = subst IsOfCommand (sym same) (of_certificate c)
   of_report (aspect.Cycle cycle) t view st text (c, optimum, same, rest) = subst IsOfCommand (sym same) (of_certificate c)
+  of_report aspect.Clocks t view st text (c, optimum, same, rest) = subst IsOfCommand (sym same) (of_certificate c)
+  of_report aspect.Object t view st text (c, optimum, same, rest) = subst IsOfCommand (sym same) (of_certificate c)
+  of_report (aspect.CycleRows cycle) t view st text (c, optimum, same, rest) = subst IsOfCommand (sym same) (of_certificate c)
+  of_report (aspect.CycleObject cycle) t view st text (c, optimum, same, rest) = subst IsOfCommand (sym same) (of_certificate c)
   of_report aspect.Histogram t view st text (c, optimum, same, rest) = subst IsOfCommand (sym same) (of_certificate c)
   of_report (aspect.Schedule cycle) t view st text (c, optimum, same, rest) = subst IsOfCommand (sym same) (of_certificate c)
 
   of_job : (job : Job) (told : Aspect) (beside : List (List ℕ)) (t : Timing) (file : List ℕ) (view : View) (st : Status) (text : List ℕ) → IsJobAnswer most job told beside t file view st text →
       IsOfCommand st
-  of_job Check told beside t file view st text (s, is_of, judged) = of_judgement t s view st text judged
+  of_job Check told beside t file view st text (s, is_of, judged) = of_judgement t s told view st text judged
   of_job Optimise told beside t file view st text h = of_optimise told t view st text h
   of_job Verify told beside t file view st text (c, is_text, h) = of_verify told t c (name_beside beside) view st text h
   of_job Report told beside t file view st text h = of_report told t view st text h

@@ -4,3 +4,4 @@ mod JobLaws
 mod ScheduleLaws
 mod CornerLaws
 mod VerdictLaws
+mod ClockLaws

@@ -1,7 +1,7 @@
 -- What is answered for people to a command on the bytes of its files: mintc's status, and a text of what is found.
 use Rattle.std.specs.Prelude.{◌≡◌, ◌≢◌, ◌≤◌, ◌⊎◌, ℤ, pos, ℕ, List, [], length, slice_index_or}
 use Rattle.std.specs.Bool.{OnFalse, OnTrue}
-use Rattle.std.specs.Prelude.{Bool, true, false, ◌==◌, ◌||◌, Option, Some, None}
+use Rattle.std.specs.Prelude.{Bool, true, false, ◌==◌, ◌||◌, Option, Some, None, codes}
 use Rattle.std.specs.List.{AllZip}
 use Rattle.mintc_fraction.specs.Ratio.{Ratio, over}
 use Rattle.mintc_text.specs.Lines.{text_of}
@@ -37,8 +37,21 @@ use Rattle.mintc_command_answers.specs.declared.command.Source.{Source}
 use Rattle.mintc_command_answers.specs.declared.status.Status.{Status}
 use Rattle.mintc_command_answers.specs.declared.status.Status.TheVariants.{Done, Found}
 use Rattle.mintcx_csv.specs.Chains.{IsOptimumTable}
+use Rattle.mintcx_csv.specs.Corners.{IsCornersTable}
+use Rattle.mintcx_csv.specs.Cycles.{IsCycleTable}
+use Rattle.mintcx_csv.specs.Passes.{IsPassTable}
+use Rattle.mintcx_csv.specs.Safe.{IsSafeTable}
 use Rattle.mintcx_csv.specs.Slacks.{IsSlackTable}
+use Rattle.mintcx_csv.specs.Verdicts.{IsVerdictTable}
+use Rattle.mintcx_csv.specs.Violations.{IsFailTable}
 use Rattle.mintcx_frame.specs.declared.view.View.{View}
+use Rattle.mintcx_json.specs.Corners.{IsCornersObject}
+use Rattle.mintcx_json.specs.Cycles.{IsCycleObject}
+use Rattle.mintcx_json.specs.Judgements.{IsFailObject, IsPassObject}
+use Rattle.mintcx_json.specs.Optimum.{IsOptimumObject}
+use Rattle.mintcx_json.specs.Safe.{IsSafeObject}
+use Rattle.mintcx_json.specs.Slacks.{IsSlackObject}
+use Rattle.mintcx_json.specs.Verdicts.{IsVerdictObject}
 use Rattle.mintcx_cycles.specs.AtCycles.{IsAtCycle}
 use Rattle.mintcx_cycles.specs.declared.cycles.AtCycle.{AtCycle}
 use Rattle.mintcx_cycles.specs.declared.cycles.AtCycle.TheVariants as at
@@ -57,10 +70,16 @@ use Rattle.mintcx_translation.specs.declared.calls.Aspect.TheVariants as aspect
 
 -- ---- the judgement of a schedule
 
+-- the text of a pass with these departures, its table or its object
+abbrev pub IsTextOfPass : Timing → Schedule → Aspect → List ℤ → List ℤ → View → List ℕ → Type 0
+IsTextOfPass t s aspect.Rows late early view text = IsPassTable t s late early text
+IsTextOfPass t s aspect.Object late early view text = IsPassObject t s late early view.subject text
+IsTextOfPass t s told late early view text = IsPassText t s late early view text
+
 -- A pass: the schedule breaks nothing, and the text has its late and early departures.
-abbrev pub IsPass : Timing → Schedule → View → List ℕ → Type 0
-IsPass t s view text = AreViolations t s []
-    × ((late : List ℤ) × (early : List ℤ) × AreLate t s late × AreEarly t s early × IsPassText t s late early view text)
+abbrev pub IsPass : Timing → Schedule → Aspect → View → List ℕ → Type 0
+IsPass t s told view text = AreViolations t s [] × ((late : List ℤ) × (early : List ℤ) × AreLate t s late
+    × AreEarly t s early × IsTextOfPass t s told late early view text)
 
 -- The departures that the text of a fail names: the late and the early ones, or none where none are exact.
 abbrev pub AreTold : Timing → Schedule → List ℤ → List ℤ → Type 0
@@ -72,16 +91,32 @@ abbrev pub IsFail : Timing → Schedule → View → List ℕ → Type 0
 IsFail t s view text = (violations : List Violation) × AreViolations t s violations × (violations ≢ [])
     × ((late : List ℤ) × (early : List ℤ) × AreTold t s late early × IsFailText t s late early view violations text)
 
+-- A fail in rows: the table has all that the schedule breaks.
+abbrev pub IsFailRows : Timing → Schedule → List ℕ → Type 0
+IsFailRows t s text = (violations : List Violation) × AreViolations t s violations × (violations ≢ [])
+    × IsFailTable t s.den violations text
+
+-- A fail as an object: it has all that the schedule breaks.
+abbrev pub IsFailAsObject : Timing → Schedule → View → List ℕ → Type 0
+IsFailAsObject t s view text = (violations : List Violation) × AreViolations t s violations × (violations ≢ [])
+    × IsFailObject t s violations view.subject text
+
+-- the text of a fail, its table or its object
+abbrev pub IsToldFail : Timing → Schedule → Aspect → View → List ℕ → Type 0
+IsToldFail t s aspect.Rows view text = IsFailRows t s text
+IsToldFail t s aspect.Object view text = IsFailAsObject t s view text
+IsToldFail t s told view text = IsFail t s view text
+
 -- the judgement of a schedule
-abbrev pub IsJudgement : Timing → Schedule → View → Status → List ℕ → Type 0
-IsJudgement t s view Done text = IsPass t s view text
-IsJudgement t s view Found text = IsFail t s view text
-IsJudgement t s view status text = ⊥
+abbrev pub IsJudgement : Timing → Schedule → Aspect → View → Status → List ℕ → Type 0
+IsJudgement t s told view Done text = IsPass t s told view text
+IsJudgement t s told view Found text = IsToldFail t s told view text
+IsJudgement t s told view status text = ⊥
 
 -- The answer of `check`: the judgement of the schedule of a text.
-abbrev pub IsCheckAnswer : Timing → List ℕ → View → Status → List ℕ → Type 0
-IsCheckAnswer t file view status text = (s : Schedule) × IsScheduleOf file (phase_count t.flat) s
-    × IsJudgement t s view status text
+abbrev pub IsCheckAnswer : Timing → Aspect → List ℕ → View → Status → List ℕ → Type 0
+IsCheckAnswer t told file view status text = (s : Schedule) × IsScheduleOf file (phase_count t.flat) s
+    × IsJudgement t s told view status text
 
 -- ---- optima
 
@@ -131,11 +166,29 @@ abbrev pub IsChainAnswer : Timing → Status → List ℕ → Type 0
 IsChainAnswer t status text = (c : Certificate) × IsOptimum t c × (status ≡ certificate_status c)
     × IsOptimumTable t.flat c text
 
+-- The answer of `optimise` or `report` as an object: that of an optimum.
+abbrev pub IsObjectAnswer : List ℕ → Timing → View → Status → List ℕ → Type 0
+IsObjectAnswer command t view status text = (c : Certificate) × IsOptimum t c × (status ≡ certificate_status c)
+    × IsOptimumObject command t.flat c view.subject text
+
+-- The answer of `optimise` for a cycle time in rows: the table of what there is at it.
+abbrev pub IsCycleRows : Timing → ℕ → Status → List ℕ → Type 0
+IsCycleRows t cycle status text = (found : AtCycle) × IsAtCycle t cycle found × (status ≡ cycle_status found)
+    × IsCycleTable t.flat found text
+
+-- The same as an object.
+abbrev pub IsCycleAsObject : Timing → ℕ → View → Status → List ℕ → Type 0
+IsCycleAsObject t cycle view status text = (found : AtCycle) × IsAtCycle t cycle found
+    × (status ≡ cycle_status found) × IsCycleObject t.flat cycle found view.subject text
+
 -- the answer of `optimise`, of the least cycle time or of another one
 abbrev pub IsOptimiseAnswer : Timing → Aspect → View → Status → List ℕ → Type 0
 IsOptimiseAnswer t (aspect.Cycle cycle) view status text = IsCycleAnswer t cycle view status text
 IsOptimiseAnswer t (aspect.Schedule cycle) view status text = IsTimedAnswer t cycle view status text
 IsOptimiseAnswer t aspect.Rows view status text = IsChainAnswer t status text
+IsOptimiseAnswer t (aspect.CycleRows cycle) view status text = IsCycleRows t cycle status text
+IsOptimiseAnswer t aspect.Object view status text = IsObjectAnswer (codes "optimise") t view status text
+IsOptimiseAnswer t (aspect.CycleObject cycle) view status text = IsCycleAsObject t cycle view status text
 IsOptimiseAnswer t told view status text = IsOptimumAnswer t view status text
 
 -- The answer of `report`: the report of an optimum, with the cells of its gates.
@@ -143,9 +196,10 @@ abbrev pub IsReportAnswer : Timing → View → Status → List ℕ → Type 0
 IsReportAnswer t view status text = (c : Certificate) × IsOptimum t c × (status ≡ certificate_status c)
     × ((cells : List (List ℕ)) × IsReportText t c cells view text)
 
--- what is told of `report`: the report, or the rows of its chain
+-- what is told of `report`: the report, the rows of its chain, or its object
 abbrev pub IsToldReport : Timing → Aspect → View → Status → List ℕ → Type 0
 IsToldReport t aspect.Rows view status text = IsChainAnswer t status text
+IsToldReport t aspect.Object view status text = IsObjectAnswer (codes "report") t view status text
 IsToldReport t told view status text = IsReportAnswer t view status text
 
 -- the least cycle time of a certificate in femtoseconds, 0 where no schedule is right
@@ -153,16 +207,23 @@ abbrev pub least_cycle : Certificate → Ratio
 least_cycle (certificate.Least s departures chain) = over s.cycle s.den
 least_cycle (certificate.Never chain) = over (pos 0) (pos 1)
 
--- The answer of `safe`: the text of an optimum that keeps each hold, beside the least cycle time of all schedules.
-abbrev pub IsSafeAnswer : Timing → View → Status → List ℕ → Type 0
-IsSafeAnswer t view status text = (c : SafeCertificate) × IsSafeOptimum t c × (status ≡ safe_status c)
-    × ((least : Certificate) × IsOptimum t least × IsSafeText t.flat c (least_cycle least) view text)
+-- the text of an optimum that keeps each hold, its table or its object
+abbrev pub IsTextOfSafe : Timing → Aspect → SafeCertificate → Ratio → View → List ℕ → Type 0
+IsTextOfSafe t aspect.Rows c without view text = IsSafeTable t.flat c text
+IsTextOfSafe t aspect.Object c without view text = IsSafeObject t.flat c without view.subject text
+IsTextOfSafe t told c without view text = IsSafeText t.flat c without view text
 
--- the text of the slacks at the least cycle time, a row for each pair, also as a table, or a count of pairs for each
--- bar
+-- The answer of `safe`: the text of an optimum that keeps each hold, beside the least cycle time of all schedules.
+abbrev pub IsSafeAnswer : Timing → Aspect → View → Status → List ℕ → Type 0
+IsSafeAnswer t told view status text = (c : SafeCertificate) × IsSafeOptimum t c × (status ≡ safe_status c)
+    × ((least : Certificate) × IsOptimum t least × IsTextOfSafe t told c (least_cycle least) view text)
+
+-- the text of the slacks at the least cycle time, a row for each pair, also as a table or an object, or a count of pairs
+-- for each bar
 abbrev pub IsTextOfSlacks : Timing → Aspect → View → Slacks → List ℕ → Type 0
 IsTextOfSlacks t aspect.Histogram view x text = IsHistogramText view x text
 IsTextOfSlacks t aspect.Rows view x text = IsSlackTable t x text
+IsTextOfSlacks t aspect.Object view x text = IsSlackObject t x view.subject text
 IsTextOfSlacks t told view x text = IsSlackText t view x text
 
 -- The answer of `slack`: the text of the slacks at the least cycle time.
@@ -192,6 +253,17 @@ abbrev pub IsToldVerdict : Timing → Certificate → List ℕ → View → Verd
 IsToldVerdict t c design view v text = (vs : List Violation) × AreOfVerdict t c v vs
     × IsVerdictText t c design view vs v text
 
+-- the object of a verdict on a certificate of a design that is called so
+abbrev pub IsVerdictAsObject : Timing → Certificate → List ℕ → View → Verdict → List ℕ → Type 0
+IsVerdictAsObject t c design view v text = (vs : List Violation) × AreOfVerdict t c v vs
+    × IsVerdictObject t c design view.subject vs v text
+
+-- the text of a verdict, its table or its object
+abbrev pub IsTextOfVerdict : Timing → Aspect → Certificate → List ℕ → View → Verdict → List ℕ → Type 0
+IsTextOfVerdict t aspect.Rows c design view v text = IsVerdictTable v text
+IsTextOfVerdict t aspect.Object c design view v text = IsVerdictAsObject t c design view v text
+IsTextOfVerdict t told c design view v text = IsToldVerdict t c design view v text
+
 -- how a run ends that tells the schedule of a certificate with this verdict
 abbrev pub certified_status : Verdict → Certificate → Status
 certified_status verdict.Valid c = certificate_status c
@@ -207,26 +279,34 @@ abbrev pub IsVerifyAnswer : Timing → Aspect → Certificate → List ℕ → V
 IsVerifyAnswer t (aspect.Schedule cycle) c design view status text = (v : Verdict) × IsVerdict t c v
     × (status ≡ certified_status v c) × IsScheduleOrVerdict t c design view v text
 IsVerifyAnswer t told c design view status text = (v : Verdict) × IsVerdict t c v
-    × (status ≡ verdict_status v) × IsToldVerdict t c design view v text
+    × (status ≡ verdict_status v) × IsTextOfVerdict t told c design view v text
 
 -- ---- corners
 
+-- the text of the optimum of all corners, its table or its object
+abbrev pub IsTextOfCorners : List Timing → Aspect → List (List ℕ) → List Certificate → CornerCertificate → View →
+    List ℕ → Type 0
+IsTextOfCorners ts aspect.Rows names alone c view text = IsCornersTable ts c text
+IsTextOfCorners ts aspect.Object names alone c view text = IsCornersObject ts names alone c view.subject text
+IsTextOfCorners ts told names alone c view text = IsCornersText ts names alone c view text
+
 -- The answer of `corners`: the text of the optimum of all corners, with the optimum of each alone.
-abbrev pub IsCornersAnswer : List Timing → List (List ℕ) → View → Status → List ℕ → Type 0
-IsCornersAnswer ts names view status text = (c : CornerCertificate) × IsOptimumOf ts c × (status ≡ corner_status c)
-    × ((alone : List Certificate) × AllZip IsOptimum ts alone × IsCornersText ts names alone c view text)
+abbrev pub IsCornersAnswer : List Timing → Aspect → List (List ℕ) → View → Status → List ℕ → Type 0
+IsCornersAnswer ts told names view status text = (c : CornerCertificate) × IsOptimumOf ts c
+    × (status ≡ corner_status c)
+    × ((alone : List Certificate) × AllZip IsOptimum ts alone × IsTextOfCorners ts told names alone c view text)
 
 -- ---- commands
 
 -- The answer to a job, with what of it is told, on a design and on the text of the file that stands beside the
 -- design's.
 abbrev pub IsJobAnswer : Most → Job → Aspect → List (List ℕ) → Timing → List ℕ → View → Status → List ℕ → Type 0
-IsJobAnswer most Check told beside t file view status text = IsCheckAnswer t file view status text
+IsJobAnswer most Check told beside t file view status text = IsCheckAnswer t told file view status text
 IsJobAnswer most Optimise told beside t file view status text = IsOptimiseAnswer t told view status text
 IsJobAnswer most Verify told beside t file view status text = (c : Certificate) × IsCertificateText most.members file c
     × IsVerifyAnswer t told c (name_beside beside) view status text
 IsJobAnswer most Report told beside t file view status text = IsToldReport t told view status text
-IsJobAnswer most Safe told beside t file view status text = IsSafeAnswer t view status text
+IsJobAnswer most Safe told beside t file view status text = IsSafeAnswer t told view status text
 IsJobAnswer most Slack told beside t file view status text = (element_count t.flat ≤ most.slack)
     × IsSlacksAnswer t told view status text
 
@@ -237,7 +317,7 @@ IsContentAnswer most (OfDesign job from) told beside files view status text = (t
 IsContentAnswer most (Sample number) told beside files view status text = ⊥
 IsContentAnswer most (Corners count) told beside files view status text =
     (ts : List Timing) × AreGiven most (corners_of files) ts × (elements_together ts ≤ most.elements)
-    × IsCornersAnswer ts beside view status text
+    × IsCornersAnswer ts told beside view status text
 
 -- The command is asked of files, so it is no sample.
 abbrev pub IsOnFiles : Command → Type 0

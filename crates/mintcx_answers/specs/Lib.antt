@@ -1,3 +1,4 @@
 -- What contracts of public calls and laws say:
 pub mod Answers
+pub mod Clocks
 pub mod Halts

@@ -85,14 +85,7 @@ pub fn answer_text(
             };
             Ok(design_text(alloc, limits, &work, source, view, files)?)
         }
-        Command::Corners { count } => corners_answer(
-            alloc,
-            limits,
-            count,
-            question.beside,
-            view,
-            files,
-        ),
+        Command::Corners { count } => corners_answer(alloc, limits, question, count, view, files),
         Command::Sample { .. } => unreachable!(),
     }
 }

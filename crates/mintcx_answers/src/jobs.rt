@@ -9,9 +9,12 @@ ghost use Rattle.mintc_timing.specs.Violations.{AreViolations};
 ghost use Rattle.mintc_certificate.specs.declared.certificate.Certificate.{Certificate};
 ghost use Rattle.mintc_command_answers.specs.Jobs.{IsFileRefused, IsOptimum, IsScheduleRefused, certificate_status};
 ghost use Rattle.mintc_command_answers.specs.Jobs.{safe_status, slack_status};
+ghost use Rattle.mintc_safe.specs.SafeOptimum.{IsSafeInRange, IsSafeValid};
 ghost use Rattle.mintc_slack.specs.Answers.{AreOfPairs};
 ghost use Rattle.mintcx_answers.specs.Answers.{IsChainAnswer, IsCheckAnswer, IsCycleAnswer, IsFail, IsJobAnswer};
-ghost use Rattle.mintcx_answers.specs.Answers.{IsJudgement};
+ghost use Rattle.mintcx_answers.specs.Answers.{IsCycleAsObject, IsCycleRows, IsFailAsObject, IsFailRows};
+ghost use Rattle.mintcx_answers.specs.Answers.{IsJudgement, IsObjectAnswer, IsTextOfSafe};
+ghost use Rattle.mintcx_answers.specs.Answers.{IsTextOfPass, IsToldFail};
 ghost use Rattle.mintcx_answers.specs.Answers.{IsOptimiseAnswer, IsOptimumAnswer, IsSafeAnswer, IsSlacksAnswer};
 ghost use Rattle.mintcx_answers.specs.Answers.{IsTextOfSlacks, IsToldReport, cycle_status, least_cycle};
 
@@ -31,9 +34,10 @@ use mintc_slack::Slacks;
 use mintc_text::limits::MOST_BYTES;
 use mintc_text::{Bytes, Kind, Limits, Name, OutOfMemory, Refusal, Stop};
 use mintc_timing::{Schedule, System, Violation};
-use mintcx_csv::{optimum_csv, slack_csv};
+use mintcx_csv::{cycle_csv, fail_csv, optimum_csv, pass_csv, safe_csv, slack_csv};
 use mintcx_cycles::{AtCycle, at_cycle_uncounted};
 use mintcx_frame::View;
+use mintcx_json::{Heading, cycle_json, fail_json, optimum_json, pass_json, safe_json, slack_json};
 use mintcx_judgements::{Judged, fail_text, pass_text, violations_are_named};
 use mintcx_optima::{cycle_text, optimum_text, safe_text};
 use mintcx_slacks::{histogram_text, slack_text};
@@ -53,7 +57,7 @@ pub(crate) struct Work<'a, 'b> {
 }
 
 /// The text of a fail that breaks just these. Where its departures don't settle, it names none.
-fn failed(
+pub(crate) fn failed(
     alloc: Global,
     system: &System,
     schedule: &Schedule,
@@ -92,16 +96,118 @@ fn failed(
     }
 }
 
+/// The text of a pass, its table or its object.
+fn passed(
+    alloc: Global,
+    aspect: Aspect,
+    judged: &Judged<'_>,
+    view: &View,
+) -> Result<Bytes, OutOfMemory>
+    requires in_range { IsInRange judged.now.schedule.now }
+    requires phases { length judged.now.schedule.now.starts ≡ phase_count judged.now.system.now.flat }
+    ensures { IfOk result (IsTextOfPass judged.now.system.now judged.now.schedule.now aspect judged.now.late.now
+        judged.now.early.now view.now) }
+{
+    match aspect {
+        Aspect::Rows => pass_csv(alloc, judged),
+        Aspect::Object => pass_json(alloc, judged, view),
+        Aspect::Whole
+        | Aspect::Cycle(_)
+        | Aspect::CycleRows(_)
+        | Aspect::CycleObject(_)
+        | Aspect::Histogram
+        | Aspect::Schedule(_)
+        | Aspect::Clocks => pass_text(alloc, judged, view),
+    }
+}
+
+/// What a schedule breaks of a system.
+#[derive(Clone, Copy)]
+struct Failing<'a> {
+    system: &'a System,
+    schedule: &'a Schedule,
+    violations: &'a [Violation],
+}
+
+/// The table of a fail that breaks just these.
+fn fail_rows(alloc: Global, failing: &Failing<'_>) -> Result<Bytes, OutOfMemory>
+    requires violations { AreViolations failing.now.system.now failing.now.schedule.now failing.now.violations.now }
+    requires some { failing.now.violations.now ≢ [] }
+    ensures { IfOk result (IsFailRows failing.now.system.now failing.now.schedule.now) }
+{
+    violations_are_named();
+    fail_csv(
+        alloc,
+        failing.system,
+        failing.schedule.den,
+        failing.violations,
+    )
+}
+
+/// The object of a fail that breaks just these.
+fn fail_object(alloc: Global, failing: &Failing<'_>, view: &View) -> Result<Bytes, OutOfMemory>
+    requires in_range { IsInRange failing.now.schedule.now }
+    requires phases { length failing.now.schedule.now.starts ≡ phase_count failing.now.system.now.flat }
+    requires violations { AreViolations failing.now.system.now failing.now.schedule.now failing.now.violations.now }
+    requires some { failing.now.violations.now ≢ [] }
+    ensures { IfOk result (IsFailAsObject failing.now.system.now failing.now.schedule.now view.now) }
+{
+    violations_are_named();
+    let judged = Judged {
+        system: failing.system,
+        schedule: failing.schedule,
+        late: &[],
+        early: &[],
+    };
+    fail_json(alloc, &judged, failing.violations, view)
+}
+
+/// The text of a fail that breaks just these, its table or its object.
+fn told_fail(
+    alloc: Global,
+    aspect: Aspect,
+    failing: &Failing<'_>,
+    room: &mut Room,
+    view: &View,
+) -> Result<Bytes, OutOfMemory>
+    requires in_range { IsInRange failing.now.schedule.now }
+    requires phases { length failing.now.schedule.now.starts ≡ phase_count failing.now.system.now.flat }
+    requires violations { AreViolations failing.now.system.now failing.now.schedule.now failing.now.violations.now }
+    requires some { failing.now.violations.now ≢ [] }
+    requires room { 1 + 2 * phase_count failing.now.system.now.flat + element_count failing.now.system.now.flat ≤ room.old.nodes }
+    ensures { IfOk result (IsToldFail failing.now.system.now failing.now.schedule.now aspect view.now) }
+{
+    match aspect {
+        Aspect::Rows => fail_rows(alloc, failing),
+        Aspect::Object => fail_object(alloc, failing, view),
+        Aspect::Whole
+        | Aspect::Cycle(_)
+        | Aspect::CycleRows(_)
+        | Aspect::CycleObject(_)
+        | Aspect::Histogram
+        | Aspect::Schedule(_)
+        | Aspect::Clocks => failed(
+            alloc,
+            failing.system,
+            failing.schedule,
+            failing.violations,
+            room,
+            view,
+        ),
+    }
+}
+
 /// The judgement of a schedule: a pass, or a fail with all its violations.
 fn judge(
     alloc: Global,
+    aspect: Aspect,
     system: &System,
     schedule: &Schedule,
     view: &View,
 ) -> Result<Answer, OutOfMemory>
     requires in_range { IsInRange schedule.now }
     requires phases { length schedule.now.starts ≡ phase_count system.now.flat }
-    ensures { IfOk result (λ answer. IsJudgement system.now schedule.now view.now answer.status answer.text) }
+    ensures { IfOk result (λ answer. IsJudgement system.now schedule.now aspect view.now answer.status answer.text) }
 {
     let mut room = room_for(alloc, system)?;
     let violations = violations(alloc, system, schedule, &mut room)?;
@@ -112,20 +218,18 @@ fn judge(
             late: room.late(),
             early: room.early(),
         };
-        let text = pass_text(alloc, &judged, view)?;
+        let text = passed(alloc, aspect, &judged, view)?;
         return Ok(Answer {
             status: Status::Done,
             text,
         });
     }
-    let text = failed(
-        alloc,
+    let failing = Failing {
         system,
         schedule,
-        violations.as_slice(),
-        &mut room,
-        view,
-    )?;
+        violations: violations.as_slice(),
+    };
+    let text = told_fail(alloc, aspect, &failing, &mut room, view)?;
     Ok(Answer {
         status: Status::Found,
         text,
@@ -133,14 +237,20 @@ fn judge(
 }
 
 /// The judgement of the schedule of a text, or why the text is refused.
-fn check_answer(alloc: Global, system: &System, file: &[u8], view: &View) -> Result<Answer, Stop>
+fn check_answer(
+    alloc: Global,
+    aspect: Aspect,
+    system: &System,
+    file: &[u8],
+    view: &View,
+) -> Result<Answer, Stop>
     requires { length file.now ≤ MOST_BYTES }
     ensures value { IfOk result
-        (λ answer. IsCheckAnswer system.now file.now view.now answer.status answer.text) }
+        (λ answer. IsCheckAnswer system.now aspect file.now view.now answer.status answer.text) }
     ensures stop { IfErr result (StopsAt (IsScheduleRefused file.now (phase_count system.now.flat))) }
 {
     let schedule = schedule_of(file, system.flat().phase_count())?;
-    Ok(judge(alloc, system, &schedule, view)?)
+    Ok(judge(alloc, aspect, system, &schedule, view)?)
 }
 
 /// How a run ends that has this certificate.
@@ -173,6 +283,25 @@ fn chain_answer(alloc: Global, system: &System) -> Result<Answer, OutOfMemory>
     Ok(Answer { status, text })
 }
 
+/// The object of the optimum, as a command answers it.
+fn object_answer(
+    alloc: Global,
+    command: &str,
+    system: &System,
+    view: &View,
+) -> Result<Answer, OutOfMemory>
+    ensures { IfOk result (λ answer. IsObjectAnswer command.now system.now view.now answer.status answer.text) }
+{
+    let certificate = optimum(alloc, system)?;
+    let heading = Heading {
+        command,
+        subject: view.subject.bytes(),
+    };
+    let text = optimum_json(alloc, &heading, system, &certificate)?;
+    let status = certificate_status(&certificate);
+    Ok(Answer { status, text })
+}
+
 /// How a run ends that has found this at a cycle time.
 pub(crate) fn cycle_status(found: &AtCycle) -> Status
     ensures { result ≡ cycle_status found.now }
@@ -198,6 +327,31 @@ fn cycle_answer(
     Ok(Answer { status, text })
 }
 
+/// The table of what there is at a cycle time in femtoseconds.
+fn cycle_rows(alloc: Global, system: &System, cycle: u32) -> Result<Answer, OutOfMemory>
+    ensures { IfOk result (λ answer. IsCycleRows system.now cycle answer.status answer.text) }
+{
+    let found = at_cycle_uncounted(alloc, system, cycle)?;
+    let text = cycle_csv(alloc, system, &found)?;
+    let status = cycle_status(&found);
+    Ok(Answer { status, text })
+}
+
+/// The object of what there is at a cycle time in femtoseconds.
+fn cycle_object(
+    alloc: Global,
+    system: &System,
+    cycle: u32,
+    view: &View,
+) -> Result<Answer, OutOfMemory>
+    ensures { IfOk result (λ answer. IsCycleAsObject system.now cycle view.now answer.status answer.text) }
+{
+    let found = at_cycle_uncounted(alloc, system, cycle)?;
+    let text = cycle_json(alloc, system, cycle, &found, view)?;
+    let status = cycle_status(&found);
+    Ok(Answer { status, text })
+}
+
 /// The text of the least cycle time, or of what there is at another one.
 fn optimise_answer(
     alloc: Global,
@@ -211,11 +365,16 @@ fn optimise_answer(
         Aspect::Cycle(cycle) => cycle_answer(alloc, system, cycle, view),
         Aspect::Schedule(cycle) => timed_answer(alloc, cycle, system, view),
         Aspect::Rows => chain_answer(alloc, system),
-        Aspect::Whole | Aspect::Histogram => optimum_answer(alloc, system, view),
+        Aspect::CycleRows(cycle) => cycle_rows(alloc, system, cycle),
+        Aspect::Object => object_answer(alloc, "optimise", system, view),
+        Aspect::CycleObject(cycle) => cycle_object(alloc, system, cycle, view),
+        Aspect::Whole | Aspect::Histogram | Aspect::Clocks => {
+            optimum_answer(alloc, system, view)
+        }
     }
 }
 
-/// The report of the optimum, or the rows of its chain.
+/// The report of the optimum, the rows of its chain, or its object.
 fn told_report(
     alloc: Global,
     work: &Work<'_, '_>,
@@ -226,17 +385,19 @@ fn told_report(
 {
     match work.aspect {
         Aspect::Rows => chain_answer(alloc, system),
-        Aspect::Whole | Aspect::Cycle(_) | Aspect::Histogram | Aspect::Schedule(_) => report_answer(
-            alloc,
-            work.netlist,
-            system,
-            view,
-        ),
+        Aspect::Object => object_answer(alloc, "report", system, view),
+        Aspect::Whole
+        | Aspect::Cycle(_)
+        | Aspect::CycleRows(_)
+        | Aspect::CycleObject(_)
+        | Aspect::Histogram
+        | Aspect::Schedule(_)
+        | Aspect::Clocks => report_answer(alloc, work.netlist, system, view),
     }
 }
 
 /// The cycle time of a schedule, in femtoseconds.
-fn cycle_of(schedule: &Schedule) -> Fraction
+pub(crate) fn cycle_of(schedule: &Schedule) -> Fraction
     requires { IsInRange schedule.now }
     ensures value { result ≡ over schedule.now.cycle schedule.now.den }
     ensures modest { IsModest result }
@@ -267,13 +428,45 @@ fn safe_status(certificate: &SafeCertificate) -> Status
     }
 }
 
+/// The text of an optimum that keeps each hold, its table or its object, beside the cycle time without holds.
+fn text_of_safe(
+    alloc: Global,
+    aspect: Aspect,
+    system: &System,
+    certificate: &SafeCertificate,
+    without: &Fraction,
+    view: &View,
+) -> Result<Bytes, OutOfMemory>
+    requires valid { IsSafeValid system.now certificate.now }
+    requires in_range { IsSafeInRange certificate.now }
+    requires without { IsModest without.now }
+    ensures { IfOk result (IsTextOfSafe system.now aspect certificate.now without.now view.now) }
+{
+    match aspect {
+        Aspect::Rows => safe_csv(alloc, system, certificate),
+        Aspect::Object => safe_json(alloc, system, certificate, without, view),
+        Aspect::Whole
+        | Aspect::Cycle(_)
+        | Aspect::CycleRows(_)
+        | Aspect::CycleObject(_)
+        | Aspect::Histogram
+        | Aspect::Schedule(_)
+        | Aspect::Clocks => safe_text(alloc, system, certificate, without, view),
+    }
+}
+
 /// The text of the optimum that keeps each hold.
-fn safe_answer(alloc: Global, system: &System, view: &View) -> Result<Answer, OutOfMemory>
-    ensures { IfOk result (λ answer. IsSafeAnswer system.now view.now answer.status answer.text) }
+fn safe_answer(
+    alloc: Global,
+    aspect: Aspect,
+    system: &System,
+    view: &View,
+) -> Result<Answer, OutOfMemory>
+    ensures { IfOk result (λ answer. IsSafeAnswer system.now aspect view.now answer.status answer.text) }
 {
     let certificate = safe_from::<Brand>(alloc, system, Blank::new(1))?;
     let without = least_cycle(alloc, system)?;
-    let text = safe_text(alloc, system, &certificate, &without, view)?;
+    let text = text_of_safe(alloc, aspect, system, &certificate, &without, view)?;
     let status = safe_status(&certificate);
     Ok(Answer { status, text })
 }
@@ -288,7 +481,7 @@ fn slack_status(slacks: &Slacks) -> Status
     }
 }
 
-/// The text of slacks, a row for each pair, also as a table, or a count of pairs for each bar.
+/// The text of slacks, a row for each pair, also as a table or an object, or a count of pairs for each bar.
 fn text_of_slacks(
     alloc: Global,
     aspect: Aspect,
@@ -302,9 +495,13 @@ fn text_of_slacks(
     match aspect {
         Aspect::Histogram => histogram_text(alloc, system, slacks, view),
         Aspect::Rows => slack_csv(alloc, system, slacks),
-        Aspect::Whole | Aspect::Cycle(_) | Aspect::Schedule(_) => slack_text(
-            alloc, system, slacks, view,
-        ),
+        Aspect::Object => slack_json(alloc, system, slacks, view),
+        Aspect::Whole
+        | Aspect::Cycle(_)
+        | Aspect::CycleRows(_)
+        | Aspect::CycleObject(_)
+        | Aspect::Schedule(_)
+        | Aspect::Clocks => slack_text(alloc, system, slacks, view),
     }
 }
 
@@ -363,11 +560,11 @@ pub(crate) fn job_text(
     ensures stop { IfErr result (StopsAt (IsFileRefused limits.now work.now.job system.now.flat file.now)) }
 {
     match work.job {
-        Job::Check => check_answer(alloc, system, file, view),
+        Job::Check => check_answer(alloc, work.aspect, system, file, view),
         Job::Optimise => Ok(optimise_answer(alloc, work.aspect, system, view)?),
         Job::Verify => verify_answer(alloc, limits, work, system, file, view),
         Job::Report => Ok(told_report(alloc, work, system, view)?),
-        Job::Safe => Ok(safe_answer(alloc, system, view)?),
+        Job::Safe => Ok(safe_answer(alloc, work.aspect, system, view)?),
         Job::Slack => slack_answer(alloc, limits, work.aspect, system, view),
     }
 }

@@ -7,6 +7,7 @@
 
 mod answering;
 mod certificates;
+mod clocks;
 mod corners;
 mod halts;
 mod jobs;
@@ -17,5 +18,6 @@ mod verdicts;
 
 pub use answering::{Question, answer_text};
 pub use certificates::{Certified, certified_text};
+pub use clocks::{Clocks, Stated, Statement, clocks_text};
 pub use halts::Halt;
-pub use subjects::{names_beside, subject_of};
+pub use subjects::{names_beside, subject_of, titles_of};

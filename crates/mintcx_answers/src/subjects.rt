@@ -1,5 +1,5 @@
 //! What an answer is about.
-ghost use Rattle.std.specs.Prelude.{◌≡◌, ◌≤◌, length, IfOk};
+ghost use Rattle.std.specs.Prelude.{◌≡◌, ◌≤◌, ◌<◌, length, IfOk};
 ghost use Rattle.mintc_command_answers.specs.Commands.{roles_of, source_roles};
 ghost use Rattle.mintcx_answers.specs.Answers.{AreNamed};
 
@@ -10,6 +10,7 @@ use mintc_text::limits::MOST_BYTES;
 use mintc_text::{Bytes, Lines, Name, Names, OutOfMemory};
 use mintc_text_names::NameSet;
 use mintc_verilog::read_netlist;
+use mintcx_sdc::Titles;
 use std::alloc::Global;
 
 /// Where the name of a file begins behind its folders.
@@ -143,6 +144,22 @@ pub fn subject_of(
         }
         Command::Sample { .. } => Name::new(alloc, b"sample"),
     }
+}
+
+/// What clocks are called after: the design, and the file that their schedule is from.
+pub fn titles_of(
+    alloc: Global,
+    source: Source,
+    names: &[Name],
+    files: &[Bytes],
+) -> Result<Titles, OutOfMemory>
+    requires names { length (source_roles source) < length names.now }
+    requires files { length (source_roles source) ≤ length files.now }
+{
+    Ok(Titles {
+        subject: design_subject(alloc, source, names, files)?,
+        source: Name::new(alloc, base_name(&names[names.len() - 1]))?,
+    })
 }
 
 /// The names of files without their folders.

@@ -9,7 +9,8 @@ ghost use Rattle.mintc_checker.specs.Verdicts.{IsVerdict};
 ghost use Rattle.mintc_command_answers.specs.Jobs.{IsFileRefused, verdict_status};
 ghost use Rattle.mintcx_judgements.specs.Named.{AreNamed};
 ghost use Rattle.mintcx_answers.specs.Answers.{AreOfVerdict, IsJobAnswer, IsScheduleOrVerdict, IsToldVerdict};
-ghost use Rattle.mintcx_answers.specs.Answers.{IsVerifyAnswer, certified_status, fails_rule, name_beside};
+ghost use Rattle.mintcx_answers.specs.Answers.{IsTextOfVerdict, IsVerdictAsObject, IsVerifyAnswer};
+ghost use Rattle.mintcx_answers.specs.Answers.{certified_status, fails_rule, name_beside};
 
 use crate::jobs::{Work, certificate_status};
 use crate::schedules::own_text;
@@ -20,7 +21,9 @@ use mintc_departure::violations;
 use mintc_text::limits::MOST_BYTES;
 use mintc_text::{Bytes, Limits, Name, OutOfMemory, Stop};
 use mintc_timing::{Schedule, System, Violation};
+use mintcx_csv::verdict_csv;
 use mintcx_frame::View;
+use mintcx_json::verdict_json;
 use mintcx_judgements::violations_are_named;
 use mintcx_translation::Aspect;
 use mintcx_verdicts::{Examined, verdict_text};
@@ -79,15 +82,19 @@ fn verdict_violations(
 
 /// A certificate of a system with its verdict, and what the design is called.
 #[derive(Clone, Copy)]
-struct Judged<'a> {
-    system: &'a System,
-    certificate: &'a Certificate,
-    verdict: Verdict,
-    design: &'a [u8],
+pub(crate) struct Judged<'a> {
+    pub(crate) system: &'a System,
+    pub(crate) certificate: &'a Certificate,
+    pub(crate) verdict: Verdict,
+    pub(crate) design: &'a [u8],
 }
 
 /// The text of a verdict.
-fn told_verdict(alloc: Global, judged: &Judged<'_>, view: &View) -> Result<Bytes, OutOfMemory>
+pub(crate) fn told_verdict(
+    alloc: Global,
+    judged: &Judged<'_>,
+    view: &View,
+) -> Result<Bytes, OutOfMemory>
     requires in_range { IsCertificateInRange judged.now.certificate.now }
     requires verdict { IsVerdict judged.now.system.now judged.now.certificate.now judged.now.verdict }
     ensures { IfOk result (IsToldVerdict judged.now.system.now judged.now.certificate.now judged.now.design.now view.now
@@ -102,6 +109,49 @@ fn told_verdict(alloc: Global, judged: &Judged<'_>, view: &View) -> Result<Bytes
         design: judged.design,
     };
     verdict_text(alloc, &examined, view)
+}
+
+/// The object of a verdict.
+fn verdict_object(alloc: Global, judged: &Judged<'_>, view: &View) -> Result<Bytes, OutOfMemory>
+    requires in_range { IsCertificateInRange judged.now.certificate.now }
+    requires verdict { IsVerdict judged.now.system.now judged.now.certificate.now judged.now.verdict }
+    ensures { IfOk result (IsVerdictAsObject judged.now.system.now judged.now.certificate.now judged.now.design.now
+        view.now judged.now.verdict) }
+{
+    let found = verdict_violations(alloc, judged.system, judged.certificate, judged.verdict)?;
+    let examined = Examined {
+        system: judged.system,
+        certificate: judged.certificate,
+        verdict: judged.verdict,
+        violations: found.as_slice(),
+        design: judged.design,
+    };
+    verdict_json(alloc, &examined, view)
+}
+
+/// The text of a verdict, its table or its object.
+fn text_of_verdict(
+    alloc: Global,
+    aspect: Aspect,
+    judged: &Judged<'_>,
+    view: &View,
+) -> Result<Bytes, OutOfMemory>
+    requires in_range { IsCertificateInRange judged.now.certificate.now }
+    requires verdict { IsVerdict judged.now.system.now judged.now.certificate.now judged.now.verdict }
+    ensures { IfOk result (IsTextOfVerdict judged.now.system.now aspect judged.now.certificate.now
+        judged.now.design.now view.now judged.now.verdict) }
+{
+    match aspect {
+        Aspect::Rows => verdict_csv(alloc, judged.verdict),
+        Aspect::Object => verdict_object(alloc, judged, view),
+        Aspect::Whole
+        | Aspect::Cycle(_)
+        | Aspect::CycleRows(_)
+        | Aspect::CycleObject(_)
+        | Aspect::Histogram
+        | Aspect::Schedule(_)
+        | Aspect::Clocks => told_verdict(alloc, judged, view),
+    }
 }
 
 /// The schedule of a certificate that is valid and has one, or else the text of the verdict.
@@ -172,8 +222,15 @@ fn examined_answer(
                 text,
             })
         }
-        Aspect::Whole | Aspect::Cycle(_) | Aspect::Histogram | Aspect::Rows => {
-            let text = told_verdict(alloc, &judged, view)?;
+        Aspect::Whole
+        | Aspect::Cycle(_)
+        | Aspect::Histogram
+        | Aspect::Rows
+        | Aspect::CycleRows(_)
+        | Aspect::Object
+        | Aspect::CycleObject(_)
+        | Aspect::Clocks => {
+            let text = text_of_verdict(alloc, aspect, &judged, view)?;
             Ok(Answer {
                 status: verdict_status(verdict),
                 text,

@@ -1,2 +1,3 @@
 mod ReadingLaws
 mod ReplyLaws
+mod RefusalLaws

@@ -22,7 +22,7 @@ use Rattle.mintcx_answers.specs.declared.halts.Halt.TheVariants as halt
 use Rattle.mintcx_run.specs.declared.answers.Told.{Told}
 use Rattle.mintcx_run.specs.declared.orders.Order.{Order}
 use Rattle.mintcx_run.specs.declared.reply.Reply.{Reply}
-use Rattle.mintcx_run.specs.Replies.{AreDescribed, AreUnread, IsCallReply, IsCornerReply, IsEarlyReply, IsExplanationReply, IsFrontsAnswer, IsFrontsRefusal, IsGiven, IsGivenReply, IsMessage, IsOrdered, IsOtherReply, IsPageOf, IsPlaced, IsRefusalReply, IsRefused, IsRefusedCorner, IsReply, IsSettings, IsUnread, IsWordsReply, NamesNone}
+use Rattle.mintcx_run.specs.Replies.{AreDescribed, AreUnread, IsCallReply, IsCornerReply, IsEarlyReply, IsExplanationReply, IsFrontsAnswer, IsFrontsRefusal, IsFrontsReply, IsGiven, IsGivenReply, IsMessage, IsOrdered, IsOtherReply, IsPageOf, IsPlaced, IsRefusalReply, IsRefused, IsRefusedCorner, IsReply, IsSettings, IsUnread, IsWordsReply, NamesNone, read_as}
 
 -- an explanation is asked for, and given
 pub explained : (asked : Request) (topic : Text) (reply : Reply) → asked ≡ request.Explain topic → IsExplanationReply topic reply → IsOtherReply asked reply
@@ -47,17 +47,24 @@ pub unread_one : (names : List Text) (n : ℕ) (name : Text) (reply : Reply) →
 unread_one names n name reply below is h = inr (name, subst (λ (x : Text). Contains names x) (sym is) (Contains-get_or names n name below), h)
 
 -- the reply to a call, of files that are read: its answer, why there is none, or that memory was wanting
-pub call_told : (files : Option Files) (order : Order) (fronts : List Text) (told : Told) (reply : Reply) → AreFronts files (MOST_BYTES + 1) order.call.files fronts → IsFrontsAnswer order fronts told →
-    IsPlaced order told reply → IsCallReply files order reply
-call_told files order fronts told reply are h placed = inr (fronts, are, inr (inl (told, h, placed)))
+pub call_told : (files : Option Files) (order as_read : Order) (fronts : List Text) (told : Told) (reply : Reply) → as_read ≡ read_as order fronts →
+    AreFronts files (MOST_BYTES + 1) order.call.files fronts → IsFrontsAnswer as_read fronts told → IsPlaced as_read told reply → IsCallReply files order reply
+call_told files order as_read fronts told reply same are h placed =
+    let own : IsFrontsReply files as_read fronts reply = inr (inl (told, h, placed)) in
+    inr (fronts, are, subst (λ (o : Order). IsFrontsReply files o fronts reply) same own)
 
-pub call_refused : (files : Option Files) (order : Order) (fronts : List Text) (refused : Refusal) (reply : Reply) → AreFronts files (MOST_BYTES + 1) order.call.files fronts → IsFrontsRefusal order fronts refused →
-    IsRefusalReply files order refused reply → IsCallReply files order reply
-call_refused files order fronts refused reply are h said = inr (fronts, are, inr (inr (inl (refused, h, said))))
+pub call_refused : (files : Option Files) (order as_read : Order) (fronts : List Text) (refused : Refusal) (reply : Reply) → as_read ≡ read_as order fronts →
+    AreFronts files (MOST_BYTES + 1) order.call.files fronts → IsFrontsRefusal as_read fronts refused → IsRefusalReply files as_read refused reply → IsCallReply files order reply
+call_refused files order as_read fronts refused reply same are h said =
+    let own : IsFrontsReply files as_read fronts reply = inr (inr (inl (refused, h, said))) in
+    inr (fronts, are, subst (λ (o : Order). IsFrontsReply files o fronts reply) same own)
 
-pub call_refused_corner : (files : Option Files) (order : Order) (fronts : List Text) (corner : ℕ) (own : Refusal) (reply : Reply) → AreFronts files (MOST_BYTES + 1) order.call.files fronts →
-    IsFrontsRefusal order fronts (refusal.Corner corner) → IsRefusedCorner order fronts corner own → IsCornerReply files order corner own reply → IsCallReply files order reply
-call_refused_corner files order fronts corner own reply are h first said = inr (fronts, are, inr (inr (inr (corner, own, h, first, said))))
+pub call_refused_corner : (files : Option Files) (order as_read : Order) (fronts : List Text) (corner : ℕ) (own : Refusal) (reply : Reply) → as_read ≡ read_as order fronts →
+    AreFronts files (MOST_BYTES + 1) order.call.files fronts → IsFrontsRefusal as_read fronts (refusal.Corner corner) → IsRefusedCorner as_read fronts corner own →
+    IsCornerReply files as_read corner own reply → IsCallReply files order reply
+call_refused_corner files order as_read fronts corner own reply same are h first said =
+    let told : IsFrontsReply files as_read fronts reply = inr (inr (inr (corner, own, h, first, said))) in
+    inr (fronts, are, subst (λ (o : Order). IsFrontsReply files o fronts reply) same told)
 
 -- why files with the description of a library have no answer
 pub described_halted : {A : Type 0} (r : Result A Halt) (order : Order) (fronts described : List Text) → order.call.of_library ≡ true → AreDescribed fronts described →
@@ -69,12 +76,12 @@ described_halted (Err halt.OutOfMemory) order fronts described of_library are h 
 
 -- with one read for the project file, and one for each file
 pub given_answered : (given : Given) (files : Option Files) (order : Order) (reply : Reply) (a b c : Option ℕ) → IsOrdered given files order → IsCallReply files order reply →
-    MakesAtMost 1 a b → MakesAtMost (length order.call.files + 1) b c → (reads : ℕ) × IsGivenReply given files reads reply × MakesAtMost reads a c
+    MakesAtMost 1 a b → MakesAtMost (length order.call.files + 2) b c → (reads : ℕ) × IsGivenReply given files reads reply × MakesAtMost reads a c
 given_answered given files order reply a b c ordered h first rest =
-    let most : 1 + (length order.call.files + 1) ≡ 2 + length order.call.files = omega arith in (
-      2 + length order.call.files,
+    let most : 1 + (length order.call.files + 2) ≡ 3 + length order.call.files = omega arith in (
+      3 + length order.call.files,
       inr (order, refl, ordered, h),
-      subst (λ (n : ℕ). MakesAtMost n a c) most (MakesAtMost-sum 1 (length order.call.files + 1) a b c first rest),
+      subst (λ (n : ℕ). MakesAtMost n a c) most (MakesAtMost-sum 1 (length order.call.files + 2) a b c first rest),
     )
 
 -- words that give something, and those that give nothing

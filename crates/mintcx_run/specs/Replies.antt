@@ -1,7 +1,8 @@
 -- What a run replies to its words, over the files of a shelf, and what it leaves.
 use Rattle.std.specs.Prelude.{◌≡◌, ◌<◌, ◌≤◌, ◌+◌, ◌⊎◌, ℕ, List, [], length, slice_set, slice_index_or}
-use Rattle.std.specs.Prelude.{Option, Some, None}
+use Rattle.std.specs.Prelude.{◌-◌, Option, Some, None, nat_eq}
 use Rattle.std.specs.Prelude.{Bool, true, false, ◌&&◌, not, Result, Ok, Err, Contains, IsUtf8, codes, if◌then◌else◌}
+use Rattle.std.specs.List.{starts_with}
 use Rattle.clap.specs.Words.{App}
 use Rattle.mintc_text.specs.Limits.{large}
 use Rattle.mintc_text.specs.declared.limits.TheConstants.{MOST_BYTES}
@@ -16,17 +17,26 @@ use Rattle.mintc_command.specs.Answers.{AreFronts}
 use Rattle.mintc_command_answers.specs.Answers.{IsDefined, IsFirstRefusal, IsOfCommand}
 use Rattle.mintc_command_answers.specs.Sources.{file_at}
 use Rattle.mintc_command_answers.specs.declared.command.Command.{Command}
-use Rattle.mintc_command_answers.specs.declared.command.Command.TheVariants.{OfDesign}
-use Rattle.mintc_command_answers.specs.declared.command.Job.TheVariants.{Optimise}
+use Rattle.mintc_command_answers.specs.declared.command.Command.TheVariants.{OfDesign, Sample, Corners}
+use Rattle.mintc_command_answers.specs.declared.command.Job.TheVariants.{Check, Optimise, Verify, Report, Safe, Slack}
+use Rattle.mintc_command_answers.specs.declared.command.Job.{Job}
 use Rattle.mintc_command_answers.specs.declared.command.Source.{Source}
 use Rattle.mintc_command_answers.specs.declared.status.Status.{Status}
-use Rattle.mintc_command_answers.specs.declared.status.Status.TheVariants.{Done, Refused, Usage, ReadFault}
+use Rattle.mintc_command_answers.specs.declared.status.Status.TheVariants.{Done, Found, Refused, Usage, ReadFault}
 use Rattle.mintc_command_answers.specs.declared.status.Status.TheVariants.{OutOfMemory}
 use Rattle.mintcx_explanations.specs.Explanations.{IsOfNumber, IsRefusalNumber, Names}
 use Rattle.mintc_command_answers.specs.Commands.{roles_of}
 use Rattle.mintc_command_answers.specs.Corners.{IsFirstRefused, corners_of}
 use Rattle.mintcx_refusals.specs.Files.{IsFile, teller}
 use Rattle.mintcx_refusals.specs.Messages as messages
+use Rattle.mintcx_refusals.specs.Parts.{HasParts}
+use Rattle.mintcx_refusals.specs.declared.parts.Marked.{Marked}
+use Rattle.mintcx_refusals.specs.declared.parts.Parts.{Parts}
+use Rattle.mintcx_json.specs.Refusals.{IsRefusedObject}
+use Rattle.mintcx_json.specs.declared.refusals.Cause.{Cause}
+use Rattle.mintcx_json.specs.declared.refusals.Refused.{Refused as RefusedTold}
+use Rattle.mintcx_json.specs.declared.refusals.Spotted.{Spotted}
+use Rattle.mintc_text.specs.Refusals.{refusal_number}
 use Rattle.mintcx_manners.specs.declared.manners.Detail.{Detail}
 use Rattle.mintcx_manners.specs.declared.manners.Detail.TheVariants as detail
 use Rattle.mintcx_manners.specs.declared.manners.Format.{Format}
@@ -51,6 +61,12 @@ use Rattle.mintcx_words.specs.Misread.{IsReading}
 use Rattle.mintcx_words.specs.declared.words.Misread.{Misread}
 use Rattle.mintcx_words.specs.declared.words.Misread.TheVariants as misread
 use Rattle.mintcx_answers.specs.Answers.{HasAnswer, HasCertificate}
+use Rattle.mintcx_answers.specs.Clocks.{HasClocks}
+use Rattle.mintcx_answers.specs.declared.clocks.Clocks.{Clocks}
+use Rattle.mintcx_answers.specs.declared.clocks.Clocks.TheVariants as clocks
+use Rattle.mintcx_answers.specs.declared.clocks.Stated.{Stated}
+use Rattle.mintcx_answers.specs.declared.clocks.Stated.TheVariants as stated
+use Rattle.mintcx_sdc.specs.declared.text.Titles.{Titles}
 use Rattle.mintcx_frame.specs.declared.view.View.{View}
 use Rattle.mintcx_run.specs.declared.answers.Told.{Told}
 use Rattle.mintcx_run.specs.declared.orders.Order.{Order}
@@ -181,6 +197,10 @@ place_for (Some name) = place.File name
 abbrev pub place_of : Manner → Place
 place_of manner = if manner.quiet then place.Nowhere else place_for manner.output
 
+-- where what is told goes: messages to the second sink
+abbrev pub told_place : Manner → Bool → Place
+told_place manner is_message = if is_message then place.Errors else place_of manner
+
 -- the file of a certificate
 abbrev pub beside_of : Option Text → Option Text → Option Beside
 beside_of (Some name) (Some text) = Some (record { name = name; text = text })
@@ -189,7 +209,7 @@ beside_of name certificate = None
 -- the reply that tells an answer, where its order wants it
 pub record IsPlaced (order : Order) (told : Told) (reply : Reply) : Type 0 where
   pub status : reply.status ≡ told.status
-  pub place : reply.place ≡ place_of order.manner
+  pub place : reply.place ≡ told_place order.manner told.is_message
   pub text : reply.text ≡ told.text
   pub beside : reply.beside ≡ beside_of order.call.certificate told.certificate
 
@@ -198,6 +218,7 @@ pub record IsPlain (order : Order) (fronts : List Text) (told : Told) : Type 0 w
   pub defined : IsDefined large order.call.command fronts told.status told.text
   pub of_command : IsOfCommand told.status
   pub alone : told.certificate ≡ None
+  pub answer : told.is_message ≡ false
 
 -- the source of the design whose optimum a command is about, where its certificate goes to a file
 abbrev pub certified_of : Command → Option Text → Option Source
@@ -210,17 +231,45 @@ certified_source call = certified_of call.command call.certificate
 -- an optimum for people, with its certificate
 abbrev pub IsCertified : Source → List Text → View → Told → Type 0
 IsCertified from fronts view told = (written : Text) × (told.certificate ≡ Some written)
-    × HasCertificate large from fronts view told.status told.text written
+    × (told.is_message ≡ false) × HasCertificate large from fronts view told.status told.text written
 
 -- an answer for people, with no certificate
 abbrev pub IsLone : Order → List Text → View → Told → Type 0
-IsLone order fronts view told = (told.certificate ≡ None) × ((beside : List Text)
+IsLone order fronts view told = (told.certificate ≡ None) × (told.is_message ≡ false) × ((beside : List Text)
     × HasAnswer large order.call.command order.call.aspect beside fronts view told.status told.text)
+
+-- what is told is this text
+abbrev pub IsText : Status → Text → Told → Type 0
+IsText status text told = (told.status ≡ status) × (told.text ≡ text) × (told.is_message ≡ false)
+    × (told.certificate ≡ None)
+
+-- what is told of the clocks of a schedule: their text, what is said of a schedule that isn't right, or a message that
+-- SDC can't say them
+abbrev pub IsToldOf : Clocks → Told → Type 0
+IsToldOf (clocks.Said text) told = IsText Done text told
+IsToldOf (clocks.Denied text) told = IsText Found text told
+IsToldOf (clocks.Unsaid obstacle) told = (told.status ≡ Found) × (told.is_message ≡ true) × (told.certificate ≡ None)
+
+-- the clocks of a schedule that is stated so beside a design; what they are called after isn't said
+abbrev pub AreClocks : Stated → Source → List Text → View → Told → Type 0
+AreClocks stated from fronts view told = (titles : Titles) × (what : Clocks)
+    × HasClocks large stated from titles view fronts what × IsToldOf what told
+
+-- an answer for people without a certificate beside it: clocks, or another one
+abbrev pub IsByAspect : Aspect → Command → Order → List Text → View → Told → Type 0
+IsByAspect aspect.Clocks (OfDesign Check from) order fronts view told =
+    AreClocks stated.Schedule from fronts view told
+IsByAspect aspect.Clocks (OfDesign Verify from) order fronts view told =
+    AreClocks stated.Certificate from fronts view told
+IsByAspect aspect command order fronts view told = IsLone order fronts view told
+
+abbrev pub IsUncertified : Order → List Text → View → Told → Type 0
+IsUncertified order fronts view told = IsByAspect order.call.aspect order.call.command order fronts view told
 
 -- with its certificate, or without
 abbrev pub IsShown : Option Source → Order → List Text → View → Told → Type 0
 IsShown (Some from) order fronts view told = IsCertified from fronts view told
-IsShown None order fronts view told = IsLone order fronts view told
+IsShown None order fronts view told = IsUncertified order fronts view told
 
 -- the answer to a call for people, in the unit and with the rows that are asked
 pub record IsForPeople (order : Order) (fronts : List Text) (told : Told) : Type 0 where
@@ -235,14 +284,15 @@ abbrev pub is_plain : Format → Bool
 is_plain format.Plain = true
 is_plain form = false
 
--- a schedule is told, which has one form alone
-abbrev pub is_schedule : Aspect → Bool
-is_schedule (aspect.Schedule cycle) = true
-is_schedule told = false
+-- a schedule is told, or clocks, which have one form alone
+abbrev pub has_one_form : Aspect → Bool
+has_one_form (aspect.Schedule cycle) = true
+has_one_form aspect.Clocks = true
+has_one_form told = false
 
 -- mintc's own answer is asked for
 abbrev pub is_own : Order → Bool
-is_own order = is_plain order.manner.format && not (is_schedule order.call.aspect)
+is_own order = is_plain order.manner.format && not (has_one_form order.call.aspect)
 
 -- the answer in its form
 abbrev pub IsAnswered : Order → List Text → Told → Type 0
@@ -305,6 +355,61 @@ abbrev pub IsRefusedFile : Option Files → Order → Refusal → Text → Type 
 IsRefusedFile files order refused file = (file ≡ []) ⊎ ((n : ℕ) × IsFile (roles_of order.call.command) refused n
     × IsFront files (slice_index_or order.call.files n []) (MOST_BYTES + 1) file)
 
+-- the answer is an object, and so is a refusal
+abbrev pub is_object : Format → Bool
+is_object format.Json = true
+is_object form = false
+
+-- the word of a command
+abbrev pub command_word : Command → Text
+command_word (OfDesign Check from) = codes "check"
+command_word (OfDesign Optimise from) = codes "optimise"
+command_word (OfDesign Verify from) = codes "verify"
+command_word (OfDesign Report from) = codes "report"
+command_word (OfDesign Safe from) = codes "safe"
+command_word (OfDesign Slack from) = codes "slack"
+command_word (Sample number) = codes "sample"
+command_word (Corners count) = codes "corners"
+
+-- what is marked of a file, as an object has it
+abbrev pub spotted_of : Option Marked → Option Spotted
+spotted_of None = None
+spotted_of (Some marked) =
+    Some (record { line = marked.spot.line; column = marked.spot.column; length = marked.length })
+
+-- this refusal is told with its number
+pub record IsCauseOf (refused : Refusal) (cause : Cause) : Type 0 where
+  pub number : cause.number ≡ refusal_number refused
+  pub refusal : cause.refusal.now ≡ refused
+
+-- what a corner's own files are refused for is told, of a corner
+abbrev pub IsOwnCause : Option Refusal → Option Cause → Type 0
+IsOwnCause None cause = cause ≡ None
+IsOwnCause (Some own) cause = (c : Cause) × (cause ≡ Some c) × IsCauseOf own c
+
+-- The text is the object of a refusal, and of what a corner's own files are refused for; the file is the one that one
+-- refusal tells, and what is marked is the place of another one, which is the same but for a corner.
+pub record IsObjectOf (order : Order) (file : Text) (refused telling placed : Refusal) (own : Option Refusal)
+    (text : Text) : Type 0 where
+  pub told : RefusedTold
+  pub parts : Parts
+  pub are : HasParts (roles_of order.call.command) order.call.files file telling placed parts
+  pub command : told.command.now ≡ command_word order.call.command
+  pub cause : IsCauseOf refused told.cause
+  pub own_cause : IsOwnCause own told.own
+  pub name : told.file.now ≡ parts.name.now
+  pub spotted : told.spotted ≡ spotted_of parts.marked
+  pub object : IsRefusedObject told text
+
+-- a refusal as an object
+abbrev pub IsObjectText : Order → Text → Refusal → Text → Type 0
+IsObjectText order file refused text = IsObjectOf order file refused refused refused None text
+
+-- a corner as an object
+abbrev pub IsCornerObject : Order → Text → ℕ → Refusal → Text → Type 0
+IsCornerObject order file corner own text =
+    IsObjectOf order file (refusal.Corner corner) (teller (refusal.Corner corner) own) own (Some own) text
+
 -- what is said of a refusal, with the bytes of the file that it speaks of: over several lines, or in one
 abbrev pub IsTextOfRefusal : Detail → Order → Text → Refusal → Text → Type 0
 IsTextOfRefusal detail.Full order file refused text =
@@ -312,8 +417,13 @@ IsTextOfRefusal detail.Full order file refused text =
 IsTextOfRefusal detail.Short order file refused text =
     messages.IsShortMessage (roles_of order.call.command) order.call.files file refused text
 
+-- a refusal as an object, or else as a message
+abbrev pub IsRefusalIn : Bool → Order → Text → Refusal → Text → Type 0
+IsRefusalIn true order file refused text = IsObjectText order file refused text
+IsRefusalIn false order file refused text = IsTextOfRefusal order.manner.detail order file refused text
+
 abbrev pub IsRefusalText : Order → Text → Refusal → Text → Type 0
-IsRefusalText order file refused text = IsTextOfRefusal order.manner.detail order file refused text
+IsRefusalText order file refused text = IsRefusalIn (is_object order.manner.format) order file refused text
 
 -- what is said of a corner, and of what its own files are refused for
 abbrev pub IsTextOfCorner : Detail → Order → Text → ℕ → Refusal → Text → Type 0
@@ -322,32 +432,43 @@ IsTextOfCorner detail.Full order file corner own text =
 IsTextOfCorner detail.Short order file corner own text =
     messages.IsShortMessage (roles_of order.call.command) order.call.files file (refusal.Corner corner) text
 
-abbrev pub IsCornerText : Order → Text → ℕ → Refusal → Text → Type 0
-IsCornerText order file corner own text = IsTextOfCorner order.manner.detail order file corner own text
+-- a corner as an object, or else as a message
+abbrev pub IsCornerIn : Bool → Order → Text → ℕ → Refusal → Text → Type 0
+IsCornerIn true order file corner own text = IsCornerObject order file corner own text
+IsCornerIn false order file corner own text = IsTextOfCorner order.manner.detail order file corner own text
 
--- a text is told of files that are refused, by a message for the second sink
-pub record IsTold (text : Text) (reply : Reply) : Type 0 where
+abbrev pub IsCornerText : Order → Text → ℕ → Refusal → Text → Type 0
+IsCornerText order file corner own text = IsCornerIn (is_object order.manner.format) order file corner own text
+
+-- where a refusal goes: an object to the first sink, or nowhere in a quiet run, and a message to the second one
+abbrev pub refusal_place : Manner → Place
+refusal_place manner = if is_object manner.format
+    then (if manner.quiet then place.Nowhere else place.Output)
+    else place.Errors
+
+-- a text is told of files that are refused
+pub record IsTold (manner : Manner) (text : Text) (reply : Reply) : Type 0 where
   pub said : reply.text ≡ text
   pub status : reply.status ≡ Refused
-  pub place : reply.place ≡ place.Errors
+  pub place : reply.place ≡ refusal_place manner
   pub beside : reply.beside ≡ None
 
 -- that, or memory was wanting
-abbrev pub IsSaidReply : {E : Type 0} → Result Text E → Reply → Type 0
-IsSaidReply (Ok text) reply = IsTold text reply
-IsSaidReply (Err e) reply = IsOutOfMemory reply
+abbrev pub IsSaidReply : {E : Type 0} → Manner → Result Text E → Reply → Type 0
+IsSaidReply manner (Ok text) reply = IsTold manner text reply
+IsSaidReply manner (Err e) reply = IsOutOfMemory reply
 
 -- why files are refused is told, or memory was wanting
 abbrev pub IsRefusalReply : Option Files → Order → Refusal → Reply → Type 0
 IsRefusalReply files order refused reply = IsOutOfMemory reply
     ⊎ ((file : Text) × (text : Text) × IsRefusedFile files order refused file × IsRefusalText order file refused text
-    × IsTold text reply)
+    × IsTold order.manner text reply)
 
 -- the same of a corner, by the file that is at fault: its delays, or another one
 abbrev pub IsCornerReply : Option Files → Order → ℕ → Refusal → Reply → Type 0
 IsCornerReply files order corner own reply = IsOutOfMemory reply
     ⊎ ((file : Text) × (text : Text) × IsRefusedFile files order (teller (refusal.Corner corner) own) file
-    × IsCornerText order file corner own text × IsTold text reply)
+    × IsCornerText order file corner own text × IsTold order.manner text reply)
 
 -- ---- the reply
 
@@ -359,12 +480,34 @@ IsFrontsReply files order fronts reply = IsOutOfMemory reply
     ⊎ ((corner : ℕ) × (own : Refusal) × IsFrontsRefusal order fronts (refusal.Corner corner)
     × IsRefusedCorner order fronts corner own × IsCornerReply files order corner own reply)))
 
+-- The last file begins as the text of a schedule does.
+abbrev pub has_schedule : List Text → Bool
+has_schedule fronts = starts_with nat_eq (file_at fronts (length fronts - 1)) (codes "schedule ")
+
+-- the command of a call, once its files are read: the clocks of a schedule's own text are those of `check`
+abbrev pub command_as : Aspect → Command → List Text → Command
+command_as aspect.Clocks (OfDesign Verify from) fronts = OfDesign (if has_schedule fronts then Check else Verify) from
+command_as aspect command fronts = command
+
+-- an order, once its files are read
+abbrev pub read_as : Order → List Text → Order
+read_as order fronts = record {
+  call = record {
+    command = command_as order.call.aspect order.call.command fronts;
+    aspect = order.call.aspect;
+    of_library = order.call.of_library;
+    files = order.call.files;
+    certificate = order.call.certificate;
+  };
+  manner = order.manner;
+}
+
 -- The reply to a call of mintc over the files of a shelf: a file can't be read, or the answer in its form, of the first
 -- bytes of the files, one more than a file may have.
 abbrev pub IsCallReply : Option Files → Order → Reply → Type 0
 IsCallReply files order reply = AreUnread order.call.files reply
     ⊎ ((fronts : List Text) × AreFronts files (MOST_BYTES + 1) order.call.files fronts
-    × IsFrontsReply files order fronts reply)
+    × IsFrontsReply files (read_as order fronts) fronts reply)
 
 -- What the words give and a project file are this call.
 pub record IsOrdered (given : Given) (files : Option Files) (order : Order) : Type 0 where
@@ -385,10 +528,10 @@ IsEarlyReply given files reply = IsSettingsReply files given.project reply
     ⊎ ((settings : Settings) × IsSettings files given.project settings × IsRequestReply given settings reply)
 
 -- The reply to what the words give, with at most so many reads: one of the project file, one of each file of a call,
--- and one more of the file that is refused.
+-- and two more where files are refused: of the file at fault, and of another that its message takes names from.
 abbrev pub IsGivenReply : Given → Option Files → ℕ → Reply → Type 0
 IsGivenReply given files reads reply = ((reads ≡ 1) × IsEarlyReply given files reply)
-    ⊎ ((order : Order) × (reads ≡ 2 + length order.call.files) × IsOrdered given files order
+    ⊎ ((order : Order) × (reads ≡ 3 + length order.call.files) × IsOrdered given files order
     × IsCallReply files order reply)
 
 -- The reply of a run to its words over the files of a shelf, with at most so many reads: none where the words give

@@ -6,26 +6,31 @@ ghost use Rattle.mintc_command_answers.specs.Answers.{IsFirstRefusal, IsOfComman
 ghost use Rattle.mintc_command_answers.specs.Commands.{IsNumberInRange, roles_of};
 ghost use Rattle.mintc_command_answers.specs.Corners.{IsFirstRefused, corners_of};
 ghost use Rattle.mintcx_answers.specs.Answers.{IsOnFiles};
+ghost use Rattle.mintcx_answers.specs.Clocks.{job_of};
 ghost use Rattle.mintcx_answers.specs.Halts.{HaltsAt};
-ghost use Rattle.mintcx_run.specs.Replies.{IsAnswered, IsCertified, IsForPeople, IsFrontsAnswer, IsFrontsRefusal};
+ghost use Rattle.mintcx_run.specs.Replies.{AreClocks, IsAnswered, IsCertified, IsForPeople, IsFrontsAnswer, IsFrontsRefusal};
 ghost use Rattle.mintcx_run.specs.Replies.{IsLone, IsPlain, IsRefused, IsRefusedCorner, certified_source};
-ghost use Rattle.mintcx_run.specs.Replies.{is_own};
+ghost use Rattle.mintcx_run.specs.Replies.{IsToldOf, IsUncertified, has_one_form, is_own};
 
 use crate::libraries::describe;
 use crate::orders::Order;
 use mintc_command_answers::{Answer, Command, Job, Source, Status, answer_to};
-use mintc_text::{Bytes, Limits, OutOfMemory, Stop};
-use mintcx_answers::{Halt, Question, answer_text, certified_text, names_beside, subject_of};
+use mintc_text::{Bytes, Limits, Name, OutOfMemory, Stop};
+use mintcx_answers::{
+    Clocks, Halt, Question, Stated, Statement, answer_text, certified_text, clocks_text,
+    names_beside, subject_of, titles_of,
+};
 use mintcx_frame::View;
 use mintcx_manners::Format;
 use mintcx_translation::{Aspect, Call};
 use std::alloc::Global;
 
-/// What is told of an order: a status and a text, and a certificate that goes to a file.
+/// What is told of an order: a status and a text, whether that is a message, and a certificate that goes to a file.
 #[derive(Drop)]
 pub(crate) struct Told {
     pub(crate) status: Status,
     pub(crate) text: Bytes,
+    pub(crate) is_message: bool,
     pub(crate) certificate: Option<Bytes>,
 }
 
@@ -39,6 +44,7 @@ fn plain_answer(alloc: Global, order: &Order, files: &mut [Bytes]) -> Result<Tol
     Ok(Told {
         status,
         text,
+        is_message: false,
         certificate: None,
     })
 }
@@ -92,6 +98,7 @@ fn certified_answer(
     Ok(Told {
         status: told.answer.status,
         text: told.answer.text,
+        is_message: false,
         certificate: Some(told.certificate),
     })
 }
@@ -117,8 +124,102 @@ fn lone_answer(alloc: Global, order: &Order, view: &View, files: &mut [Bytes]) -
     Ok(Told {
         status,
         text,
+        is_message: false,
         certificate: None,
     })
+}
+
+/// What is told of the clocks of a schedule.
+fn told_of(alloc: Global, clocks: Clocks) -> Result<Told, OutOfMemory>
+    ensures value { IfOk result (IsToldOf clocks) }
+    ensures of_command { IfOk result (λ told. IsOfCommand told.status) }
+{
+    match clocks {
+        Clocks::Said(text) => Ok(Told {
+            status: Status::Done,
+            text,
+            is_message: false,
+            certificate: None,
+        }),
+        Clocks::Denied(text) => Ok(Told {
+            status: Status::Found,
+            text,
+            is_message: false,
+            certificate: None,
+        }),
+        Clocks::Unsaid(obstacle) => {
+            let text = format!(in alloc; "error: SDC can't say this schedule: {obstacle}\n")?;
+            Ok(Told {
+                status: Status::Found,
+                text: Bytes::new(text.into_bytes()),
+                is_message: true,
+                certificate: None,
+            })
+        }
+    }
+}
+
+/// The clocks of a schedule that is stated in the last file.
+fn clocks_answer(
+    alloc: Global,
+    stated: Stated,
+    source: Source,
+    names: &[Name],
+    view: &View,
+    files: &mut [Bytes],
+) -> Result<Told, Stop>
+    requires count { length files.old ≡ length (roles_of (Command.OfDesign (job_of stated) source)) }
+    requires names { length names.now ≡ length files.old }
+    ensures value { IfOk result (AreClocks stated source files.old view.now) }
+    ensures of_command { IfOk result (λ told. IsOfCommand told.status) }
+    ensures stop { IfErr result
+        (StopsAt (IsFirstRefusal large (Command.OfDesign (job_of stated) source) files.old)) }
+{
+    let titles = titles_of(alloc, source, names, files)?;
+    let asked = Statement {
+        source,
+        stated,
+        titles: &titles,
+        view,
+    };
+    let clocks = clocks_text(alloc, &Limits::large(), &asked, files)?;
+    Ok(told_of(alloc, clocks)?)
+}
+
+/// The answer to a call for people, of an optimum without a certificate beside it.
+fn uncertified_answer(
+    alloc: Global,
+    order: &Order,
+    view: &View,
+    files: &mut [Bytes],
+) -> Result<Told, Halt>
+    requires count { length files.old ≡ length (roles_of order.now.call.command) }
+    requires names { length order.now.call.files ≡ length (roles_of order.now.call.command) }
+    requires in_range { IsNumberInRange order.now.call.command }
+    requires on_files { IsOnFiles order.now.call.command }
+    ensures value { IfOk result (IsUncertified order.now files.old view.now) }
+    ensures of_command { IfOk result (λ told. IsOfCommand told.status) }
+    ensures halt { IfErr result (HaltsAt (IsFirstRefusal large order.now.call.command files.old)
+        (IsFirstRefused large (corners_of files.old) 1)) }
+{
+    let names = order.call.files.items();
+    match (order.call.aspect, order.call.command) {
+        (
+            Aspect::Clocks,
+            Command::OfDesign {
+                job: Job::Check,
+                source,
+            },
+        ) => Ok(clocks_answer(alloc, Stated::Schedule, source, names, view, files)?),
+        (
+            Aspect::Clocks,
+            Command::OfDesign {
+                job: Job::Verify,
+                source,
+            },
+        ) => Ok(clocks_answer(alloc, Stated::Certificate, source, names, view, files)?),
+        _ => lone_answer(alloc, order, view, files),
+    }
 }
 
 /// The answer to a call for people.
@@ -134,16 +235,22 @@ fn people_answer(alloc: Global, order: &Order, files: &mut [Bytes]) -> Result<To
     let view = view_of(alloc, order, files)?;
     match certified_source(&order.call) {
         Some(source) => Ok(certified_answer(alloc, source, &view, files)?),
-        None => lone_answer(alloc, order, &view, files),
+        None => uncertified_answer(alloc, order, &view, files),
     }
+}
+
+/// Whether what is told has one form alone.
+fn has_one_form(aspect: Aspect) -> bool
+    ensures { result ≡ has_one_form aspect }
+{
+    matches!(aspect, Aspect::Schedule(_) | Aspect::Clocks)
 }
 
 /// Whether mintc's own answer is asked for.
 fn is_own(order: &Order) -> bool
     ensures { result ≡ is_own order.now }
 {
-    let is_schedule = matches!(order.call.aspect, Aspect::Schedule(_));
-    matches!(order.manner.format, Format::Plain) && !is_schedule
+    matches!(order.manner.format, Format::Plain) && !has_one_form(order.call.aspect)
 }
 
 /// The answer to a call in its form, of the first bytes of its files.

@@ -5,7 +5,8 @@ ghost use Rattle.mintc_command.specs.Answers.{MakesAtMost};
 ghost use Rattle.mintc_command_answers.specs.Commands.{IsNumberInRange, roles_of};
 ghost use Rattle.mintc_command_answers.specs.declared.status.Status.TheVariants.{ReadFault, WriteFault};
 ghost use Rattle.mintcx_answers.specs.Answers.{IsOnFiles};
-ghost use Rattle.mintcx_run.specs.Replies.{IsCallReply, IsGivenReply, IsPlaced, IsReply, beside_of, place_of};
+ghost use Rattle.mintcx_run.specs.Replies.{IsCallReply, IsGivenReply, IsPlaced, IsReply, beside_of, command_as};
+ghost use Rattle.mintcx_run.specs.Replies.{has_schedule, place_of, read_as, told_place};
 
 use crate::answers::{Told, fronts_answer};
 use crate::orders::{Order, order_for};
@@ -13,9 +14,11 @@ use crate::projects::given_of;
 use crate::reading::read_files;
 use crate::refusals::{refused, refused_corner};
 use crate::reply::{Beside, Place, Reply};
+use mintc_command_answers::{Command, Job};
 use mintc_text::{Bytes, Name, Shelf};
 use mintcx_answers::Halt;
 use mintcx_requests::{Given, Manner};
+use mintcx_translation::{Aspect, Call};
 use std::alloc::Global;
 
 /// Where an answer goes.
@@ -41,15 +44,76 @@ fn beside_of(name: Option<Name>, certificate: Option<Bytes>) -> Option<Beside>
     }
 }
 
+/// Where what is told goes: messages to the second sink.
+fn told_place(manner: Manner, is_message: bool) -> Place
+    ensures { result ≡ told_place manner is_message }
+{
+    if is_message {
+        Place::Errors
+    } else {
+        place_of(manner)
+    }
+}
+
 /// The reply that tells an answer, where its order wants it.
 fn placed(order: Order, told: Told) -> Reply
     ensures { IsPlaced order told result }
 {
     Reply {
         status: told.status,
-        place: place_of(order.manner),
+        place: told_place(order.manner, told.is_message),
         text: told.text,
         beside: beside_of(order.call.certificate, told.certificate),
+    }
+}
+
+/// Whether the last file begins as the text of a schedule does.
+fn has_schedule(files: &[Bytes]) -> bool
+    ensures { result ≡ has_schedule files.now }
+{
+    !files.is_empty() && files[files.len() - 1].items().starts_with(b"schedule ")
+}
+
+/// The command of a call, once its files are read: the clocks of a schedule's own text are those of `check`.
+fn command_as(aspect: Aspect, command: Command, files: &[Bytes]) -> Command
+    ensures value { result ≡ command_as aspect command files.now }
+    ensures count { length (roles_of result) ≡ length (roles_of command) }
+    ensures in_range { IsNumberInRange command → IsNumberInRange result }
+    ensures on_files { IsOnFiles command → IsOnFiles result }
+{
+    match (aspect, command) {
+        (
+            Aspect::Clocks,
+            Command::OfDesign {
+                job: Job::Verify,
+                source,
+            },
+        ) => {
+            let job = if has_schedule(files) {
+                Job::Check
+            } else {
+                Job::Verify
+            };
+            Command::OfDesign { job, source }
+        }
+        _ => command,
+    }
+}
+
+/// An order, once its files are read.
+fn read_as(order: Order, files: &[Bytes]) -> Order
+    ensures value { result ≡ read_as order files.now }
+    ensures count { length (roles_of result.call.command) ≡ length (roles_of order.call.command) }
+    ensures in_range { IsNumberInRange order.call.command → IsNumberInRange result.call.command }
+    ensures on_files { IsOnFiles order.call.command → IsOnFiles result.call.command }
+{
+    let command = command_as(order.call.aspect, order.call.command, files);
+    Order {
+        call: Call {
+            command,
+            ..order.call
+        },
+        manner: order.manner,
     }
 }
 
@@ -64,12 +128,13 @@ fn call_reply<S: Shelf>(alloc: Global, order: Order, shelf: &mut S) -> Reply
     ensures same { S.files shelf.new ≡ S.files shelf.old }
     ensures later { S.faults shelf.old ≤ S.faults shelf.new }
     ensures cause { result.status ≡ ReadFault → Rose (S.faults shelf.old) (S.faults shelf.new) }
-    ensures reads { MakesAtMost (length order.call.files + 1) (S.calls shelf.old) (S.calls shelf.new) }
+    ensures reads { MakesAtMost (length order.call.files + 2) (S.calls shelf.old) (S.calls shelf.new) }
 {
     let mut files = match read_files(alloc, shelf, order.call.files.items()) {
         Ok(files) => files,
         Err(reply) => return reply,
     };
+    let order = read_as(order, files.as_slice());
     match fronts_answer(alloc, &order, files.as_mut_slice()) {
         Ok(told) => placed(order, told),
         Err(Halt::Refused(refusal)) => refused(alloc, &order, &refusal, shelf),

@@ -212,6 +212,11 @@ const VERDICTS: Rows = Rows {
             "mintcx verify pulse.cert --table pulse.table",
             "0|valid  no schedule of pulse.table is right  (pulse.cert)\n||",
         ),
+        (
+            "mintcx sdc pulse.cert --table pulse.table",
+            "1|valid  no schedule of pulse.table is right  (pulse.cert)\n||",
+        ),
+        ("mintcx sdc 7.cert", LONG_CYCLE_TOLD),
     ],
 };
 

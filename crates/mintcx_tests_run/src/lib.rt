@@ -7,6 +7,8 @@ mod certificates;
 #[cfg(test)]
 mod folder;
 #[cfg(test)]
+mod forms;
+#[cfg(test)]
 mod rows;
 #[cfg(test)]
 mod runs;

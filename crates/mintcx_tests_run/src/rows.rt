@@ -17,7 +17,8 @@ pub(crate) struct Rows {
 }
 
 /// A schedule of the table that is too fast.
-const FAST: &str = "schedule 1\nden 1\ncycle 80\nphases 2\nphase 0 10\nphase 10 30\nend\n";
+pub(crate) const FAST: &str =
+    "schedule 1\nden 1\ncycle 80\nphases 2\nphase 0 10\nphase 10 30\nend\n";
 
 /// The least cycle time of the table.
 const LEAST: &str = "0|least  cycle 100 fs, 10.000 THz  (two.table)
@@ -243,6 +244,17 @@ phase 10 30
 end
 ||";
 
+/// The clocks of the optimum.
+const CLOCKS: &str = "0|# mintcx 0.1.0: clocks of two.table from two.cert, a cycle of 100 fs
+# All numbers are in ns, exactly; read this where the library's time unit is 1 ns.
+set_units -time ns
+create_clock -name {phi1} -period 0.0001 -waveform {0 0.00001} [get_ports {phi1}]
+create_clock -name {phi2} -period 0.0001 -waveform {0.00001 0.00004} [get_ports {phi2}]
+||";
+
+/// A right schedule of the table over the denominator 2.
+const HALF: &str = "schedule 1\nden 2\ncycle 201\nphases 2\nphase 0 20\nphase 20 61\nend\n";
+
 /// The optimum of the files at two corners, which are the same.
 const JOINT: &str = "0|least  cycle 100 fs, 10.000 THz  (two, 2 corners)
 
@@ -293,6 +305,7 @@ const TABLE: Rows = Rows {
         ("two.schedule", TWO_SCHEDULE),
         ("two.cert", TWO_CERTIFICATE),
         ("fast.schedule", FAST),
+        ("half.schedule", HALF),
         ("pulse.table", PULSE_TABLE),
         ("mintc.toml", PROJECT),
         ("chip/mintc.toml", PROJECT),
@@ -401,7 +414,23 @@ const TABLE: Rows = Rows {
         ),
         (
             "mintcx slack --histogram --format csv",
-            "3||error: '--format csv' isn't there yet for this; 'optimise', 'report' and 'slack' have it\n|",
+            "3||error: '--format csv' isn't there for 'schedule', 'sdc', '--histogram' and '--certificate'\n|",
+        ),
+        (
+            "mintcx check two.schedule --format csv",
+            "0|element,on,late,early,setup,hold\r\na,latch on phi1,0,0,0,\r\nb,latch on phi2,20,20,0,\r\n||",
+        ),
+        (
+            "mintcx check fast.schedule --format csv",
+            "1|kind,of,by\r\nloop,a b,20\r\n||",
+        ),
+        ("mintcx sdc two.cert", CLOCKS),
+        ("mintcx sdc two.cert --format plain", CLOCKS),
+        ("mintcx sdc fast.schedule", FAIL),
+        (
+            "mintcx sdc half.schedule",
+            "1||error: SDC can't say this schedule: its times are over the denominator 2; `mintcx schedule --cycle` \
+             gives whole femtoseconds\n|",
         ),
         ("mintcx verify two.cert", VALID),
         ("mintcx schedule", TOLD_SCHEDULE),
@@ -456,7 +485,7 @@ error[1]: this statement isn't structural Verilog
             "2||error[1]: this statement of the library is out of form
  --> two.v
  = why: it doesn't begin as a library does
- = help: end it with `;`, or fetch the library again
+ = help: look whether it is a Liberty file, unpacked
  = note: `refused 1 cells 0`; `mintcx explain 1` says more
 |",
         ),

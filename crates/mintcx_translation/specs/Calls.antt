@@ -49,6 +49,7 @@ abbrev pub own_file : Task → Option Text
 own_file (task.Check schedule) = Some schedule
 own_file (task.Verify certificate) = Some certificate
 own_file (task.Schedule certificate cycle) = certificate
+own_file (task.Sdc file) = Some file
 own_file what = None
 
 -- the task is about several delay files
@@ -72,7 +73,7 @@ abbrev pub schedule_job : Option Text → Job
 schedule_job (Some certificate) = job.Verify
 schedule_job None = job.Optimise
 
--- the job of a task on one design
+-- the job of a task on one design; clocks are those of a certificate, where the file isn't a schedule's own text
 abbrev pub job_of : Task → Result Job Gap
 job_of (task.Check schedule) = Ok job.Check
 job_of (task.Optimise certificate cycle) = Ok job.Optimise
@@ -82,7 +83,7 @@ job_of task.Safe = Ok job.Safe
 job_of (task.Slack histogram) = Ok job.Slack
 job_of task.Corners = Err gap.Misfit
 job_of (task.Schedule certificate cycle) = Ok (schedule_job certificate)
-job_of (task.Sdc file) = Err gap.Sdc
+job_of (task.Sdc file) = Ok job.Verify
 job_of (task.Draw file histogram) = Err gap.Draw
 
 -- what of a task's command is told
@@ -90,6 +91,7 @@ abbrev pub aspect_of : Task → Aspect
 aspect_of (task.Optimise certificate (Some cycle)) = aspect.Cycle cycle
 aspect_of (task.Slack true) = aspect.Histogram
 aspect_of (task.Schedule certificate cycle) = aspect.Schedule cycle
+aspect_of (task.Sdc file) = aspect.Clocks
 aspect_of what = aspect.Whole
 
 -- the source of a design with these cells
@@ -136,24 +138,28 @@ is_certified (task.Optimise (Some name) cycle) = true
 is_certified what = false
 
 -- what mintc has no text for, and a certificate beside its text, which is one; a schedule has one text alone, in
--- mintc's form
+-- mintc's form, and so have clocks, as SDC
 abbrev pub plain_gap : Bool → Aspect → Option Gap
 plain_gap true told = Some gap.Certificate
 plain_gap false (aspect.Cycle cycle) = Some gap.Cycle
 plain_gap false aspect.Histogram = Some gap.Histogram
 plain_gap false told = None
 
--- the answer to a task has rows as CSV
-abbrev pub has_rows : Task → Bool
-has_rows (task.Optimise None None) = true
-has_rows task.Report = true
-has_rows (task.Slack false) = true
-has_rows what = false
+-- the answer to a task has rows as CSV, and is an object as JSON
+abbrev pub has_data : Task → Bool
+has_data (task.Optimise None cycle) = true
+has_data (task.Slack false) = true
+has_data (task.Check schedule) = true
+has_data (task.Verify certificate) = true
+has_data task.Report = true
+has_data task.Safe = true
+has_data task.Corners = true
+has_data what = false
 
 -- what of a form is not there yet for a task
 abbrev pub form_gap : Format → Task → Option Gap
-form_gap format.Json what = Some gap.Json
-form_gap format.Csv what = if has_rows what then None else Some gap.Csv
+form_gap format.Json what = if has_data what then None else Some gap.Json
+form_gap format.Csv what = if has_data what then None else Some gap.Csv
 form_gap format.Text what = None
 form_gap format.Plain what = plain_gap (is_certified what) (aspect_of what)
 
@@ -161,9 +167,20 @@ form_gap format.Plain what = plain_gap (is_certified what) (aspect_of what)
 abbrev pub form_of : Format → Bool → Task → Option Gap
 form_of form clamp what = if clamp then Some gap.Clamp else form_gap form what
 
+-- the rows of a task
+abbrev pub rows_of : Task → Aspect
+rows_of (task.Optimise certificate (Some cycle)) = aspect.CycleRows cycle
+rows_of what = aspect.Rows
+
+-- the object of a task
+abbrev pub object_of : Task → Aspect
+object_of (task.Optimise certificate (Some cycle)) = aspect.CycleObject cycle
+object_of what = aspect.Object
+
 -- what of a task is told in a form
 abbrev pub told_in : Format → Task → Aspect
-told_in format.Csv what = aspect.Rows
+told_in format.Csv what = rows_of what
+told_in format.Json what = object_of what
 told_in form what = aspect_of what
 
 -- a call whose files are as many as its command takes

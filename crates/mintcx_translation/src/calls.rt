@@ -3,9 +3,9 @@ ghost use Rattle.std.specs.Prelude.{◌≡◌, ◌≢◌, ◌<◌, ◌++◌, ◌
 ghost use Rattle.mintc_command_answers.specs.Commands.{IsNumberInRange, roles_of};
 ghost use Rattle.mintcx_translation.specs.Calls.{IsNoCall, aspect_of, call_for, cells_file, certificate_file};
 ghost use Rattle.mintcx_translation.specs.Calls.{command_for, corners_on, design_files, is_certified};
-ghost use Rattle.mintcx_translation.specs.Calls.{form_gap, form_of, has_rows, is_corners, is_fitting};
-ghost use Rattle.mintcx_translation.specs.Calls.{job_of, job_on, of_library};
-ghost use Rattle.mintcx_translation.specs.Calls.{own_file, plain_gap, source_of, told_in};
+ghost use Rattle.mintcx_translation.specs.Calls.{form_gap, form_of, has_data, is_corners, is_fitting};
+ghost use Rattle.mintcx_translation.specs.Calls.{job_of, job_on, object_of, of_library};
+ghost use Rattle.mintcx_translation.specs.Calls.{own_file, plain_gap, rows_of, source_of, told_in};
 
 use mintc_command_answers::{Command, Job, Source};
 use mintc_text::{Name, Names, OutOfMemory};
@@ -22,11 +22,21 @@ pub enum Aspect {
     Cycle(u32),
     /// Of `slack`: the pairs counted by their slack.
     Histogram,
-    /// The rows alone, as CSV: of `optimise` and `report` the chain that decides, of `slack` the pairs.
+    /// The rows alone, as CSV: of `check` the rooms or the violations, of `optimise`, `report`, `safe` and `corners` the
+    /// chain that decides, of `slack` the pairs, of `verify` the verdict.
     Rows,
+    /// The rows alone, as CSV, of `optimise`: of what there is at a cycle time in femtoseconds.
+    CycleRows(u32),
     /// The schedule, as `check` takes it: of `optimise` that of the least cycle time, or of another one in
     /// femtoseconds; of `verify` that of the certificate.
     Schedule(Option<u32>),
+    /// One object, as JSON: of `check` the departures or the violations, of `optimise`, `report`, `safe` and `corners`
+    /// the schedule and the chain, of `slack` the pairs, of `verify` the verdict.
+    Object,
+    /// One object, as JSON, of `optimise`: what there is at a cycle time in femtoseconds.
+    CycleObject(u32),
+    /// The clocks as SDC: of `check` those of the schedule, of `verify` those of the certificate's.
+    Clocks,
 }
 
 /// A command of mintc, what of it is told, and the names of its files, in their order. Where `of_library` is set, the
@@ -44,7 +54,6 @@ pub struct Call {
 /// What of a request is not there yet.
 #[derive(Clone, Copy, Debug, PartialEq, Eq)]
 pub enum Gap {
-    Sdc,
     Draw,
     /// The form of the answer.
     Json,
@@ -197,6 +206,10 @@ fn beside_of(task: Task) -> Beside
             own: certificate,
             certificate: None,
         },
+        Task::Sdc { file } => Beside {
+            own: Some(file),
+            certificate: None,
+        },
         _ => Beside {
             own: None,
             certificate: None,
@@ -227,7 +240,7 @@ fn job_of(task: &Task) -> Result<Job, Gap>
     match task {
         Task::Check { .. } => Ok(Job::Check),
         Task::Optimise { .. } => Ok(Job::Optimise),
-        Task::Verify { .. } => Ok(Job::Verify),
+        Task::Verify { .. } | Task::Sdc { .. } => Ok(Job::Verify),
         Task::Report => Ok(Job::Report),
         Task::Safe => Ok(Job::Safe),
         Task::Slack { .. } => Ok(Job::Slack),
@@ -240,7 +253,6 @@ fn job_of(task: &Task) -> Result<Job, Gap>
             certificate: None,
             ..
         } => Ok(Job::Optimise),
-        Task::Sdc { .. } => Err(Gap::Sdc),
         Task::Draw { .. } => Err(Gap::Draw),
     }
 }
@@ -256,6 +268,7 @@ fn aspect_of(task: &Task) -> Aspect
         } => Aspect::Cycle(*cycle),
         Task::Slack { histogram: true } => Aspect::Histogram,
         Task::Schedule { cycle, .. } => Aspect::Schedule(*cycle),
+        Task::Sdc { .. } => Aspect::Clocks,
         _ => Aspect::Whole,
     }
 }
@@ -355,25 +368,53 @@ fn is_certified(task: &Task) -> bool
     }
 }
 
+/// The rows of a task.
+fn rows_of(task: &Task) -> Aspect
+    ensures { result ≡ rows_of task.now }
+{
+    match task {
+        Task::Optimise {
+            cycle: Some(cycle),
+            ..
+        } => Aspect::CycleRows(*cycle),
+        _ => Aspect::Rows,
+    }
+}
+
+/// The object of a task.
+fn object_of(task: &Task) -> Aspect
+    ensures { result ≡ object_of task.now }
+{
+    match task {
+        Task::Optimise {
+            cycle: Some(cycle),
+            ..
+        } => Aspect::CycleObject(*cycle),
+        _ => Aspect::Object,
+    }
+}
+
 /// What of a task is told in a form.
 fn told_in(format: Format, task: &Task) -> Aspect
     ensures { result ≡ told_in format task.now }
 {
     match format {
-        Format::Csv => Aspect::Rows,
-        Format::Text | Format::Plain | Format::Json => aspect_of(task),
+        Format::Csv => rows_of(task),
+        Format::Json => object_of(task),
+        Format::Text | Format::Plain => aspect_of(task),
     }
 }
 
-/// Whether an answer has rows as CSV.
-fn has_rows(task: &Task) -> bool
-    ensures { result ≡ has_rows task.now }
+/// Whether an answer has rows as CSV, and is an object as JSON.
+fn has_data(task: &Task) -> bool
+    ensures { result ≡ has_data task.now }
 {
     match task {
-        Task::Optimise { certificate, cycle } => certificate.is_none() && cycle.is_none(),
-        Task::Report => true,
+        Task::Optimise { certificate, .. } => certificate.is_none(),
         Task::Slack { histogram } => !*histogram,
-        _ => false,
+        Task::Check { .. } | Task::Verify { .. } | Task::Report | Task::Safe | Task::Corners =>
+            true,
+        Task::Schedule { .. } | Task::Sdc { .. } | Task::Draw { .. } => false,
     }
 }
 
@@ -385,7 +426,8 @@ fn plain_gap(certified: bool, aspect: Aspect) -> Option<Gap>
         return Some(Gap::Certificate);
     }
     match aspect {
-        Aspect::Whole | Aspect::Schedule(_) | Aspect::Rows => None,
+        Aspect::Whole | Aspect::Schedule(_) | Aspect::Clocks => None,
+        Aspect::Rows | Aspect::CycleRows(_) | Aspect::Object | Aspect::CycleObject(_) => None,
         Aspect::Cycle(_) => Some(Gap::Cycle),
         Aspect::Histogram => Some(Gap::Histogram),
     }
@@ -396,8 +438,14 @@ fn form_gap(format: Format, task: &Task) -> Option<Gap>
     ensures { result ≡ form_gap format task.now }
 {
     match format {
-        Format::Json => Some(Gap::Json),
-        Format::Csv => { if has_rows(task) { None } else { Some(Gap::Csv) } }
+        Format::Json => {
+            if has_data(task) {
+                None
+            } else {
+                Some(Gap::Json)
+            }
+        }
+        Format::Csv => { if has_data(task) { None } else { Some(Gap::Csv) } }
         Format::Text => None,
         Format::Plain => plain_gap(is_certified(task), aspect_of(task)),
     }

@@ -8,11 +8,13 @@ impl Gap {
     /// What is said of it.
     fn text(self) -> &'static str {
         match self {
-            Gap::Sdc => "'sdc' isn't there yet",
             Gap::Draw => "'draw' isn't there yet",
-            Gap::Json => "'--format json' isn't there yet; text, plain and csv are",
-            Gap::Csv =>
-                "'--format csv' isn't there yet for this; 'optimise', 'report' and 'slack' have it",
+            Gap::Json => {
+                "'--format json' isn't there for 'schedule', 'sdc', '--histogram' and '--certificate'"
+            }
+            Gap::Csv => {
+                "'--format csv' isn't there for 'schedule', 'sdc', '--histogram' and '--certificate'"
+            }
             Gap::Clamp => "'--clamp-negative' isn't there yet",
             Gap::Cycle => "'--cycle' has no plain form; '--format text' has one",
             Gap::Certificate => {

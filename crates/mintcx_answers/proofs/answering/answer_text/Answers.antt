@@ -13,7 +13,7 @@ returns-in-Corners c =
     let texts = c.args.files.now in
     let told = c.corners_answer.ensures in
     record {
-      value = answered c.args.limits.now c.corners_answer.result asked.command own asked.aspect asked.beside.now texts c.args.view.now c.in-Corners.is c.in_default.ensures (told.value asked.aspect);
-      of_command = of_command c.args.limits.now c.corners_answer.result own asked.aspect asked.beside.now texts c.args.view.now (told.value asked.aspect);
+      value = answered c.args.limits.now c.corners_answer.result asked.command own asked.aspect asked.beside.now texts c.args.view.now c.in-Corners.is c.in_default.ensures told.value;
+      of_command = of_command c.args.limits.now c.corners_answer.result own asked.aspect asked.beside.now texts c.args.view.now told.value;
       stop = halted c.args.limits.now c.corners_answer.result asked.command own texts c.in-Corners.is told.stop;
     }

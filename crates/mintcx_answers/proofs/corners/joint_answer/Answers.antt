@@ -4,7 +4,7 @@ use Rattle.mintcx_joint.specs.Alone.{HasAlone}
 use Rattle.mintcx_answers.proofs.CornerLaws.{has_alone}
 use Rattle.mintcx_answers.proofs.corners.joint_answer.Goals as goal
 
-pub corners_text-requires-clause-alone : goal.corners_text-requires-clause-alone
-corners_text-requires-clause-alone c =
+pub text_of_corners-requires-clause-alone : goal.text_of_corners-requires-clause-alone
+text_of_corners-requires-clause-alone c =
     let own = has_alone c.args.systems.now c.args.names.now c.in_ok-alone.alone.items c.requires.names c.in_ok-alone.ensures in
     subst (λ (x : List Certificate). HasAlone c.args.systems.now c.args.names.now x) (sym c.as_slice.ensures.value) own

@@ -1,0 +1,92 @@
+-- The clock of a design, and the clocks of a schedule.
+use Rattle.std.proofs.Common.{◌≡◌, ◌∙◌, ℕ, ℤ, List, length, map, Option, Some, None, Result, Ok, Err, IfErr, ap, sym, subst}
+use Rattle.std.proofs.lemmas.List.{length-map}
+use Rattle.mintc_text.specs.declared.limits.Most.{Most}
+use Rattle.mintc_text.specs.declared.refusals.Refusal.{Refusal}
+use Rattle.mintc_text.specs.declared.refusals.Refusal.TheVariants as refusal
+use Rattle.mintc_text.specs.declared.refusals.Stop.{Stop}
+use Rattle.mintc_text.specs.declared.refusals.Stop.TheVariants as stop
+use Rattle.mintc_text.specs.Stops.{StopsAt}
+use Rattle.mintc_timing.specs.Design.{Design, Timing, phase_count}
+use Rattle.mintc_timing.specs.declared.clocking.Schedule.{Schedule}
+use Rattle.mintc_certificate.specs.declared.certificate.Certificate.{Certificate}
+use Rattle.mintc_certificate.specs.declared.certificate.Certificate.TheVariants.{Least}
+use Rattle.mintc_certificate.specs.declared.members.Member.{Member}
+use Rattle.mintc_checker.specs.Verdicts.{IsVerdict}
+use Rattle.mintc_checker.specs.declared.verdict.Verdict.{Verdict}
+use Rattle.mintc_checker.specs.declared.verdict.Verdict.TheVariants.{Valid}
+use Rattle.mintc_clock.specs.ClockOf.{IsClock, IsClockRefusal}
+use Rattle.mintc_clock.specs.Laws.{ClocksAreDetermined, ClocksAreNotRefused, ClocksKeepLimits, KeepsLimits}
+use Rattle.mintc_clock.specs.declared.clock.Clock.{Clock}
+use Rattle.mintc_clock.specs.declared.clock.PhaseDef.{PhaseDef}
+use Rattle.mintc_build.specs.FilesDesign.{CellText, IsDesignOver}
+use Rattle.mintc_command_answers.specs.Answers.{IsFirstRefusal, IsJobRefusal, of_contents}
+use Rattle.mintc_command_answers.specs.Sources.{AreShort, Gives, file_at}
+use Rattle.mintc_command_answers.specs.declared.command.Command.TheVariants.{OfDesign}
+use Rattle.mintc_command_answers.specs.declared.command.Job.{Job}
+use Rattle.mintc_command_answers.specs.declared.command.Source.{Source}
+use Rattle.mintc_command_answers.specs.declared.command.Source.TheVariants.{Table, Files, Liberty}
+use Rattle.mintcx_frame.specs.declared.view.View.{View}
+use Rattle.mintcx_sdc.specs.Named.{named_clock, named_phase}
+use Rattle.mintcx_sdc.specs.declared.text.Titles.{Titles}
+use Rattle.mintcx_answers.specs.declared.clocks.Clocks.{Clocks}
+use Rattle.mintcx_answers.specs.Clocks.{IsByVerdict, IsChosen, IsClockIn, IsClockOf, IsOfCertificate, IsOfLeast, IsReadIn}
+
+-- ---- the clock
+
+-- a text that has a clock isn't refused
+not_refused : ClocksAreNotRefused → (text : List ℕ) (clock : Clock) (refused : Refusal) → IsClock text clock → IsClockRefusal text refused → ⊥
+not_refused law text clock (refusal.BadClock n r) is bad = law text clock n r is bad
+not_refused law text clock _ is bad = bad
+
+-- what is said of the clock of a design
+pub record IsFitting (from : Source) (files : List (List ℕ)) (t : Timing) (clock : Clock) : Type 0 where
+  pub value : IsClockOf from files t clock
+  pub limits : KeepsLimits clock
+  pub alike : length clock.phases ≡ phase_count t.flat
+
+-- the phases of a design over a clock are its
+over_clock : (most : Most) (v d : List ℕ) (c : CellText) (k : List ℕ) (design : Design) (clock : Clock) → ClocksAreDetermined → IsDesignOver most v d c k design → IsClock k clock →
+    length clock.phases ≡ phase_count design
+over_clock most v d c k design clock same h is =
+    let made : design.phases ≡ map (λ (p : PhaseDef). p.name) h.clock.phases = ap (λ (x : Design). x.phases) h.annotated.whole.made in
+    ap (λ (x : Clock). length x.phases) (same k clock h.clock is h.read.clock_read)
+    ∙ sym (length-map h.clock.phases (λ (p : PhaseDef). p.name)) ∙ ap length (sym made)
+
+-- the clock that was read of a description
+of_read : (most : Most) (v d : List ℕ) (c : CellText) (k : List ℕ) (t : Timing) (read : Option Clock) (clock : Clock) → ClocksKeepLimits → ClocksAreDetermined → ClocksAreNotRefused →
+    IsDesignOver most v d c k t.flat → IsReadIn k read → IsChosen t read clock → IsClock k clock × KeepsLimits clock × (length clock.phases ≡ phase_count t.flat)
+of_read most v d c k t (Some own) clock keep same not h is chosen =
+    let stands : IsClock k clock = subst (IsClock k) (sym chosen) is in
+    (stands, keep k clock stands, over_clock most v d c k t.flat clock same h stands)
+of_read most v d c k t None clock keep same not h (refused, bad) chosen = absurd (not_refused not k h.clock refused h.read.clock_read bad)
+
+-- the clock of the design that files give
+pub clock_fits : (most : Most) (from : Source) (files : List (List ℕ)) (t : Timing) (read : Option Clock) (clock : Clock) → ClocksKeepLimits → ClocksAreDetermined → ClocksAreNotRefused →
+    Gives most from files t → IsClockIn from files read → (read ≡ None → KeepsLimits clock) → IsChosen t read clock → IsFitting from files t clock
+clock_fits most Table files t read clock keep same not gives is limits chosen =
+    let own : clock ≡ named_clock t.flat.phases = subst (λ (x : Option Clock). IsChosen t x clock) is chosen in
+    record { value = own; limits = limits is; alike = ap (λ (x : Clock). length x.phases) own ∙ length-map t.flat.phases named_phase }
+clock_fits most Files files t read clock keep same not gives is limits chosen =
+    let h = of_read most (file_at files 0) (file_at files 1) _ (file_at files 3) t read clock keep same not gives.design is chosen in
+    record { value = h.0; limits = h.1; alike = h.2 }
+clock_fits most Liberty files t read clock keep same not gives is limits chosen =
+    let h = of_read most (file_at files 0) (file_at files 1) _ (file_at files 3) t read clock keep same not gives.design is chosen in
+    record { value = h.0; limits = h.1; alike = h.2 }
+
+-- ---- the schedule of a certificate
+
+-- the clocks of a valid one
+pub clocks_of_least : (t : Timing) (clock : Clock) (c : Certificate) (s : Schedule) (ds : List ℤ) (ms : List Member) (titles : Titles) (view : View) (v : Verdict) (told : Clocks) →
+    c ≡ Least s ds ms → v ≡ Valid → IsVerdict t c v → IsOfLeast t clock s titles told → IsOfCertificate t clock c titles view told
+clocks_of_least t clock c s ds ms titles view v told is valid verdict h =
+    let own : IsByVerdict t clock (Least s ds ms) titles view Valid told = h in
+    let judged = subst (λ (y : Verdict). IsByVerdict t clock (Least s ds ms) titles view y told) (sym valid) own in
+    (v, verdict, subst (λ (x : Certificate). IsByVerdict t clock x titles view v told) (sym is) judged)
+
+-- what stops a job stops its command
+pub clocks_stopped : {A : Type 0} (most : Most) (r : Result A Stop) (job : Job) (source : Source) (texts : List (List ℕ)) → AreShort most texts → IfErr r (StopsAt (IsJobRefusal most job source texts)) →
+    IfErr r (StopsAt (IsFirstRefusal most (OfDesign job source) texts))
+clocks_stopped most (Ok a) job source texts short h = tt
+clocks_stopped most (Err (stop.Refused refused)) job source texts short h = of_contents short h
+clocks_stopped most (Err stop.OutOfMemory) job source texts short h = tt
