@@ -5,6 +5,7 @@ write on standard error.
   ANSWER has, and ends with the status in the same line of a file `status` beside it, 0 where there is no such file. Where a chain
   begins is free for mintc, so its lines are compared as a ring.
 - Plain: for each line of mintc, mintcx with the same files by options and `--format plain` writes what mintc writes and ends so.
+- Objects: for each line of mintc, mintcx with `--format json` writes one line that Python reads, with the numbers of mintc.
 - Statuses 2 to 7 of each program: 0 and 1 are those of examples.
 - Explanations: of each refusal, mintcx writes what its section of docs/refusals.md has, to the byte.
 - Pieces: a table and its answer, each longer than 131,072 bytes, by files and by pipes.
@@ -13,8 +14,11 @@ write on standard error.
 - Growths: three examples in which memory is refused at one page after the other: nothing is written then, and the status is 6.
 """
 import bisect
+import fractions
+import json
 import os
 import pathlib
+import re
 import resource
 import signal
 import subprocess
@@ -120,6 +124,52 @@ def other_plain_answers():
         if program == MINTC:
             status, output, _ = run(MINTC, words, folder)
             yield from differences(f"{what}, by mintcx", run(MINTCX, with_options(words), folder), status, output)
+
+
+def ratios(words):
+    """The fractions among some words, as `9/2`."""
+    return [fractions.Fraction(word) for word in words if re.fullmatch(r"-?\d+/\d+", word)]
+
+
+def plain_numbers(text):
+    """What mintc writes in numbers: its verdict, the times in their order, how many members its chain has, and what they take."""
+    lines = [line.split() for line in text.splitlines()]
+    if lines[0][0] in ("valid", "invalid", "pass", "fail"):
+        return lines[0][0], [ratio for line in lines for ratio in ratios(line)], None
+    verdict = next((line[0] for line in lines if line[0] in ("least", "never")), "least")
+    den = next((int(line[1]) for line in lines if line[0] == "den"), 1)
+    counted = [line for line in lines if line[0] in ("cycle", "phase", "departure")]
+    times = [fractions.Fraction(word) / (1 if "/" in word else den) for line in counted for word in line[1:] if re.match(r"-?\d", word)]
+    late = [ratio for line in lines if line[0] == "element" for ratio in ratios(line)]
+    slacks = sorted(fractions.Fraction(line[3]) for line in lines if line[0] == "slack")
+    return verdict, times + late + slacks, next((int(line[1]) for line in lines if line[0] == "chain"), None)
+
+
+def object_numbers(command, found):
+    """The same of an object of mintcx."""
+    verdict = {"safe": "least", "slack": "least"}.get(found["answer"], found["answer"])
+    own = [found["cycle"]] if "cycle" in found and command not in ("check", "verify") else []
+    phases = [phase[key] for phase in found.get("phases", []) for key in ("start", "width") if command != "check"]
+    elements = [element[key] for element in found.get("elements", []) for key in ("late", "early") if key in element]
+    amounts = [violation["by"] for violation in found.get("violations", []) if command == "check"]
+    slacks = [pair["slack"] for pair in found.get("pairs", [])]
+    times = [fractions.Fraction(time, found.get("den", 1)) for time in [*own, *phases, *elements, *amounts, *slacks]]
+    return verdict, times, len(found["chain"]["members"]) if "chain" in found else None
+
+
+def other_objects():
+    """Examples of mintc of which the object of mintcx has other numbers."""
+    for what, folder, program, words, *_ in examples(TOP / "examples"):
+        if program != MINTC:
+            continue
+        status, output, _ = run(MINTC, words, folder)
+        ended, text, _ = run(MINTCX, [*with_options(words)[:-1], "json"], folder)
+        found, wanted = object_numbers(words[0], json.loads(text)), plain_numbers(output.decode())
+        if words[0] == "corners":
+            # an object has no departures
+            wanted = wanted[0], wanted[1][: len(found[1])], wanted[2]
+        if (ended, found) != (status, wanted) or text.count(b"\n") != 1:
+            yield f"{what}, by mintcx as an object: {ended}, {found} in place of {status}, {wanted}"
 
 
 def with_pages(pages, words, folder):
@@ -314,6 +364,7 @@ def other_explanations():
 def wrong():
     yield from wrong_examples()
     yield from other_plain_answers()
+    yield from other_objects()
     yield from other_explanations()
     latches, ring = TOP / "examples/two-latches", TOP / "examples/from-tools/latch-ring"
     check = ["check", "table", "two.table", "two.schedule"]
