@@ -1,9 +1,10 @@
 """Runs the programs that the gate has just proved and built, and says what isn't as it should be. No run of mintc or liberty2toml may
-write on standard error.
+write on standard error, and one of mintcx only what an example says.
 
 - Examples: for each line `PROGRAM WORDS > ANSWER` of a file `command` below examples/, in its folder, the program writes what the file
   ANSWER has, and ends with the status in the same line of a file `status` beside it, 0 where there is no such file. Where a chain
-  begins is free for mintc, so its lines are compared as a ring.
+  begins is free for mintc, so its lines are compared as a ring. Where ` 2> WARNINGS` follows, mintcx writes what the file WARNINGS has on
+  standard error.
 - Plain: for each line of mintc, mintcx with the same files by options and `--format plain` writes what mintc writes and ends so.
 - Objects: for each line of mintc, mintcx with `--format json` writes one line that Python reads, with the numbers of mintc.
 - Statuses 2 to 7 of each program: 0 and 1 are those of examples.
@@ -51,10 +52,10 @@ def limited(kind, most):
     return limit
 
 
-def differences(what, ran, status, output):
-    """Says where a run has another status or output, or writes on standard error."""
-    if ran != (status, output, b""):
-        yield f"{what}: {ran[0]}, {ran[1][:99]}, {ran[2][:99]} in place of {status}, {output[:99]}"
+def differences(what, ran, status, output, errors=b""):
+    """Says where a run has another status or output, or writes other bytes on standard error."""
+    if ran != (status, output, errors):
+        yield f"{what}: {ran[0]}, {ran[1][:99]}, {ran[2][:99]} in place of {status}, {output[:99]}, {errors[:99]}"
 
 
 def parted(text):
@@ -73,16 +74,17 @@ def is_same(text, wanted):
 
 
 def examples(folder):
-    """The lines of the examples below a folder: what each is, its folder, its program, its words, its status and its answer."""
+    """The lines of the examples below a folder: what each is, its folder, its program, its words, its status, its answer and its warnings."""
     for command in sorted(folder.rglob("command")):
         folder, lines = command.parent, command.read_text().splitlines()
         stated = folder / "status"
         statuses = stated.read_text().split() if stated.is_file() else ["0"] * len(lines)
         assert len(statuses) == len(lines), f"{stated}: {len(lines)} lines are wanted"
         for line, status in zip(lines, statuses):
-            words, answer = line.split(" > ")
+            words, answers = line.split(" > ")
             name, *words = words.split()
-            yield f"{folder.relative_to(TOP)}: {line}", folder, PROGRAMS[name], words, int(status), (folder / answer).read_bytes().decode()
+            answer, *warnings = ((folder / file).read_bytes() for file in answers.split(" 2> "))
+            yield f"{folder.relative_to(TOP)}: {line}", folder, PROGRAMS[name], words, int(status), answer.decode(), b"".join(warnings)
 
 
 def other_answers(what, ran, status, wanted):
@@ -93,10 +95,10 @@ def other_answers(what, ran, status, wanted):
 
 def wrong_examples():
     """Examples with another answer or status."""
-    for what, folder, program, words, status, wanted in examples(TOP / "examples"):
+    for what, folder, program, words, status, wanted, warnings in examples(TOP / "examples"):
         ran = run(program, words, folder)
         if program == MINTCX:
-            yield from differences(what, ran, status, wanted.encode())
+            yield from differences(what, ran, status, wanted.encode(), warnings)
         else:
             yield from other_answers(what, ran, status, wanted)
 
@@ -120,7 +122,7 @@ def with_options(words):
 
 def other_plain_answers():
     """Examples of mintc that mintcx answers in another way, asked for mintc's own text."""
-    for what, folder, program, words, _, _ in examples(TOP / "examples"):
+    for what, folder, program, words, *_ in examples(TOP / "examples"):
         if program == MINTC:
             status, output, _ = run(MINTC, words, folder)
             yield from differences(f"{what}, by mintcx", run(MINTCX, with_options(words), folder), status, output)
@@ -185,7 +187,7 @@ def wrong_growths():
 
     least = bisect.bisect_left(range(16_384), True, key=starts)
     for name in ("latch-ring", "flattened", "flops-and-latches"):
-        what, folder, _, words, status, wanted = next(examples(TOP / "examples/from-tools" / name))
+        what, folder, _, words, status, wanted, *_ = next(examples(TOP / "examples/from-tools" / name))
         pages = least
         while (ran := with_pages(pages, words, folder)) == (6, b"", b""):
             pages += 1
@@ -344,20 +346,20 @@ def wrong_statuses_of_mintcx(folder, words, bad):
             yield f"mintcx, an answer in a file: {answer.read_bytes()[:99]} in place of {output[:99]}"
 
 
-def sections():
-    """The sections of docs/refusals.md on one refusal each, by its number, as they are to be written."""
+def sections(heading):
+    """The sections of docs/refusals.md below a heading, by what they explain, as they are to be written."""
     page = (TOP / "docs/refusals.md").read_text()
-    part = page.split("\n## Each refusal\n", 1)[1].split("\n## ", 1)[0]
+    part = page.split(f"\n## {heading}\n", 1)[1].split("\n## ", 1)[0]
     for piece in part.split("\n### ")[1:]:
-        yield int(piece.split(":", 1)[0]), piece.rstrip("\n") + "\n"
+        yield piece.split(":", 1)[0], piece.rstrip("\n") + "\n"
 
 
 def other_explanations():
-    explained = dict(sections())
-    if list(explained) != [number for number in range(1, 23) if number != 20]:
+    explained = dict(sections("Each refusal"))
+    if list(explained) != [str(number) for number in range(1, 23) if number != 20]:
         yield f"docs/refusals.md explains {list(explained)}"
-    for number, text in explained.items():
-        words = ["explain", str(number)]
+    for topic, text in [*explained.items(), *sections("Each warning")]:
+        words = ["explain", topic]
         yield from differences(" ".join(["mintcx", *words]), run(MINTCX, words, TOP), 0, text.encode())
 
 

@@ -3,5 +3,6 @@ mod CertificateLaws
 mod JobLaws
 mod ScheduleLaws
 mod CornerLaws
+mod PictureLaws
 mod VerdictLaws
 mod ClockLaws

@@ -2,3 +2,4 @@
 pub mod Answers
 pub mod Clocks
 pub mod Halts
+pub mod Pictures

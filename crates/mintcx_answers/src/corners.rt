@@ -78,7 +78,8 @@ fn text_of_corners(
         | Aspect::CycleObject(_)
         | Aspect::Histogram
         | Aspect::Schedule(_)
-        | Aspect::Clocks => corners_text(alloc, corners, certificate, view),
+        | Aspect::Clocks
+        | Aspect::Picture => corners_text(alloc, corners, certificate, view),
     }
 }
 

@@ -117,7 +117,8 @@ fn passed(
         | Aspect::CycleObject(_)
         | Aspect::Histogram
         | Aspect::Schedule(_)
-        | Aspect::Clocks => pass_text(alloc, judged, view),
+        | Aspect::Clocks
+        | Aspect::Picture => pass_text(alloc, judged, view),
     }
 }
 
@@ -186,7 +187,8 @@ fn told_fail(
         | Aspect::CycleObject(_)
         | Aspect::Histogram
         | Aspect::Schedule(_)
-        | Aspect::Clocks => failed(
+        | Aspect::Clocks
+        | Aspect::Picture => failed(
             alloc,
             failing.system,
             failing.schedule,
@@ -368,7 +370,7 @@ fn optimise_answer(
         Aspect::CycleRows(cycle) => cycle_rows(alloc, system, cycle),
         Aspect::Object => object_answer(alloc, "optimise", system, view),
         Aspect::CycleObject(cycle) => cycle_object(alloc, system, cycle, view),
-        Aspect::Whole | Aspect::Histogram | Aspect::Clocks => {
+        Aspect::Whole | Aspect::Histogram | Aspect::Clocks | Aspect::Picture => {
             optimum_answer(alloc, system, view)
         }
     }
@@ -392,7 +394,8 @@ fn told_report(
         | Aspect::CycleObject(_)
         | Aspect::Histogram
         | Aspect::Schedule(_)
-        | Aspect::Clocks => report_answer(alloc, work.netlist, system, view),
+        | Aspect::Clocks
+        | Aspect::Picture => report_answer(alloc, work.netlist, system, view),
     }
 }
 
@@ -451,7 +454,8 @@ fn text_of_safe(
         | Aspect::CycleObject(_)
         | Aspect::Histogram
         | Aspect::Schedule(_)
-        | Aspect::Clocks => safe_text(alloc, system, certificate, without, view),
+        | Aspect::Clocks
+        | Aspect::Picture => safe_text(alloc, system, certificate, without, view),
     }
 }
 
@@ -501,7 +505,8 @@ fn text_of_slacks(
         | Aspect::CycleRows(_)
         | Aspect::CycleObject(_)
         | Aspect::Schedule(_)
-        | Aspect::Clocks => slack_text(alloc, system, slacks, view),
+        | Aspect::Clocks
+        | Aspect::Picture => slack_text(alloc, system, slacks, view),
     }
 }
 

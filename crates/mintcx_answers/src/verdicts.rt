@@ -150,7 +150,8 @@ fn text_of_verdict(
         | Aspect::CycleObject(_)
         | Aspect::Histogram
         | Aspect::Schedule(_)
-        | Aspect::Clocks => told_verdict(alloc, judged, view),
+        | Aspect::Clocks
+        | Aspect::Picture => told_verdict(alloc, judged, view),
     }
 }
 
@@ -229,7 +230,8 @@ fn examined_answer(
         | Aspect::CycleRows(_)
         | Aspect::Object
         | Aspect::CycleObject(_)
-        | Aspect::Clocks => {
+        | Aspect::Clocks
+        | Aspect::Picture => {
             let text = text_of_verdict(alloc, aspect, &judged, view)?;
             Ok(Answer {
                 status: verdict_status(verdict),
@@ -240,7 +242,7 @@ fn examined_answer(
 }
 
 /// What the design is called beside a certificate.
-fn name_beside(beside: &[Name]) -> &[u8]
+pub(crate) fn name_beside(beside: &[Name]) -> &[u8]
     ensures { result.now ≡ name_beside beside.now }
 {
     if beside.is_empty() {

@@ -1,3 +1,4 @@
 mod ReadingLaws
 mod ReplyLaws
 mod RefusalLaws
+mod DeliveryLaws

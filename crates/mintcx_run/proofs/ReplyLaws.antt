@@ -13,7 +13,7 @@ use Rattle.mintcx_requests.specs.declared.given.Given.{Given}
 use Rattle.mintcx_requests.specs.declared.requests.Request.{Request}
 use Rattle.mintcx_requests.specs.declared.requests.Request.TheVariants as request
 use Rattle.mintcx_project.specs.declared.project.Settings.{Settings}
-use Rattle.mintcx_explanations.specs.Explanations.{IsOfNumber, IsRefusalNumber, Names}
+use Rattle.mintcx_explanations.specs.Explanations.{IsOfNumber, IsRefusalNumber, IsWarningPage, Names, NamesNoWarning}
 use Rattle.mintc_text.specs.Limits.{large}
 use Rattle.mintc_command_answers.specs.Corners.{IsFirstRefused, corners_of}
 use Rattle.mintcx_answers.specs.Halts.{HaltsAt}
@@ -22,7 +22,8 @@ use Rattle.mintcx_answers.specs.declared.halts.Halt.TheVariants as halt
 use Rattle.mintcx_run.specs.declared.answers.Told.{Told}
 use Rattle.mintcx_run.specs.declared.orders.Order.{Order}
 use Rattle.mintcx_run.specs.declared.reply.Reply.{Reply}
-use Rattle.mintcx_run.specs.Replies.{AreDescribed, AreUnread, IsCallReply, IsCornerReply, IsEarlyReply, IsExplanationReply, IsFrontsAnswer, IsFrontsRefusal, IsFrontsReply, IsGiven, IsGivenReply, IsMessage, IsOrdered, IsOtherReply, IsPageOf, IsPlaced, IsRefusalReply, IsRefused, IsRefusedCorner, IsReply, IsSettings, IsUnread, IsWordsReply, NamesNone, read_as}
+use Rattle.mintcx_run.specs.Replies.{AreDescribed, AreUnread, IsCallReply, IsCornerReply, IsEarlyReply, IsExplanationReply, IsFrontsAnswer, IsFrontsRefusal, IsFrontsReply, IsGiven, IsGivenReply, IsMessage, IsOrdered, IsOtherReply, IsPageOf, IsPageOfRefusal, IsPlaced, IsRefusalReply, IsRefused, IsRefusedCorner, IsReply, IsSettings, IsUnread, IsWordsReply, NamesNoRefusal, NamesNone, read_as}
+use Rattle.mintcx_run.specs.Warned.{IsWarned}
 
 -- an explanation is asked for, and given
 pub explained : (asked : Request) (topic : Text) (reply : Reply) → asked ≡ request.Explain topic → IsExplanationReply topic reply → IsOtherReply asked reply
@@ -32,9 +33,15 @@ explained asked topic reply is h =
 
 -- the page of the number that a topic names
 pub page_found : {T : Type 0} (page : Option T) (text : T → Text) (topic : Text) (n : ℕ) → IsRefusalNumber n → Names topic n →
-    MatchOption page (IsRefusalNumber n → ⊥) (λ (x : T). IsRefusalNumber n × IsOfNumber n (text x)) → MatchOption page (NamesNone topic) (λ (x : T). IsPageOf topic (text x))
+    MatchOption page (IsRefusalNumber n → ⊥) (λ (x : T). IsRefusalNumber n × IsOfNumber n (text x)) → MatchOption page (NamesNoRefusal topic) (λ (x : T). IsPageOfRefusal topic (text x))
 page_found None text topic n is names h = absurd (h is)
 page_found (Some x) text topic n is names (same, of) = (n, is, names, of)
+
+-- the page of the warning that a topic names, which names no refusal
+pub page_of_warning : {T : Type 0} (page : Option T) (text : T → Text) (topic : Text) → NamesNoRefusal topic →
+    MatchOption page (NamesNoWarning topic) (λ (x : T). IsWarningPage topic (text x)) → MatchOption page (NamesNone topic) (λ (x : T). IsPageOf topic (text x))
+page_of_warning None text topic none h = (none, h)
+page_of_warning (Some x) text topic none h = inr h
 
 -- so the request has no call
 pub early_gap : (r : Result Order Reply) (given : Given) (files : Option Files) (settings : Settings) (asked : Request) → IsSettings files given.project settings → request_of given settings ≡ Ok asked →
@@ -48,9 +55,9 @@ unread_one names n name reply below is h = inr (name, subst (λ (x : Text). Cont
 
 -- the reply to a call, of files that are read: its answer, why there is none, or that memory was wanting
 pub call_told : (files : Option Files) (order as_read : Order) (fronts : List Text) (told : Told) (reply : Reply) → as_read ≡ read_as order fronts →
-    AreFronts files (MOST_BYTES + 1) order.call.files fronts → IsFrontsAnswer as_read fronts told → IsPlaced as_read told reply → IsCallReply files order reply
-call_told files order as_read fronts told reply same are h placed =
-    let own : IsFrontsReply files as_read fronts reply = inr (inl (told, h, placed)) in
+    AreFronts files (MOST_BYTES + 1) order.call.files fronts → IsFrontsAnswer as_read fronts told → IsPlaced as_read told reply → IsWarned as_read fronts reply.warnings → IsCallReply files order reply
+call_told files order as_read fronts told reply same are h placed warned =
+    let own : IsFrontsReply files as_read fronts reply = inr (inl (told, h, placed, warned)) in
     inr (fronts, are, subst (λ (o : Order). IsFrontsReply files o fronts reply) same own)
 
 pub call_refused : (files : Option Files) (order as_read : Order) (fronts : List Text) (refused : Refusal) (reply : Reply) → as_read ≡ read_as order fronts →

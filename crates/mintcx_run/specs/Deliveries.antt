@@ -54,9 +54,14 @@ IsMadeBeside (Some file) before now = Makes before now file.name file.text
 abbrev pub IsLost : Reply → Status → Sent (Option Text) → Type 0
 IsLost reply status out = ((file : Beside) × (reply.beside ≡ Some file)) × (status ≡ WriteFault) × IsStill out
 
+-- what is told before a text: its warnings, and where that write failed a front of them
+abbrev pub AreTold : Text → Sent (Option Text) → Type 0
+AreTold warnings errors = TakesFront errors.was errors.became warnings
+
 -- What a run leaves that has this reply, of the two sinks and of the files that are made: the file beside its text is
--- made, its text is where it goes, and nothing is elsewhere; or that file couldn't be made.
+-- made, its warnings are told, its text is where it goes, and nothing is elsewhere; or that file couldn't be made.
 abbrev pub IsDelivered : Reply → Status → Sent (Option Text) → Sent (Option Text) → Sent (Option Files) → Type 0
 IsDelivered reply status out errors made = IsLost reply status out
-    ⊎ ((between : Option Files) × IsMadeBeside reply.beside made.was between
-    × IsAt reply.place reply status out errors (sent between made.became))
+    ⊎ ((between : Option Files) × (told : Option Text) × IsMadeBeside reply.beside made.was between
+    × AreTold reply.warnings (sent errors.was told)
+    × IsAt reply.place reply status out (sent told errors.became) (sent between made.became))

@@ -2,3 +2,4 @@
 pub mod Folders
 pub mod Replies
 pub mod Deliveries
+pub mod Warned

@@ -24,7 +24,7 @@ use Rattle.mintc_command_answers.specs.declared.command.Source.{Source}
 use Rattle.mintc_command_answers.specs.declared.status.Status.{Status}
 use Rattle.mintc_command_answers.specs.declared.status.Status.TheVariants.{Done, Found, Refused, Usage, ReadFault}
 use Rattle.mintc_command_answers.specs.declared.status.Status.TheVariants.{OutOfMemory}
-use Rattle.mintcx_explanations.specs.Explanations.{IsOfNumber, IsRefusalNumber, Names}
+use Rattle.mintcx_explanations.specs.Explanations.{IsOfNumber, IsRefusalNumber, IsWarningPage, Names, NamesNoWarning}
 use Rattle.mintc_command_answers.specs.Commands.{roles_of}
 use Rattle.mintc_command_answers.specs.Corners.{IsFirstRefused, corners_of}
 use Rattle.mintcx_refusals.specs.Files.{IsFile, teller}
@@ -66,6 +66,12 @@ use Rattle.mintcx_answers.specs.declared.clocks.Clocks.{Clocks}
 use Rattle.mintcx_answers.specs.declared.clocks.Clocks.TheVariants as clocks
 use Rattle.mintcx_answers.specs.declared.clocks.Stated.{Stated}
 use Rattle.mintcx_answers.specs.declared.clocks.Stated.TheVariants as stated
+use Rattle.mintcx_answers.specs.Pictures.{HasPicture}
+use Rattle.mintcx_answers.specs.declared.pictures.Motif.{Motif}
+use Rattle.mintcx_answers.specs.declared.pictures.Motif.TheVariants as motif
+use Rattle.mintcx_answers.specs.declared.pictures.Pictured.{Pictured}
+use Rattle.mintcx_answers.specs.declared.pictures.Pictured.TheVariants as pictured
+use Rattle.mintcx_picture.specs.declared.drawn.Drawn.TheVariants as drawn
 use Rattle.mintcx_sdc.specs.declared.text.Titles.{Titles}
 use Rattle.mintcx_frame.specs.declared.view.View.{View}
 use Rattle.mintcx_run.specs.declared.answers.Told.{Told}
@@ -74,6 +80,7 @@ use Rattle.mintcx_run.specs.declared.reply.Beside.{Beside}
 use Rattle.mintcx_run.specs.declared.reply.Place.{Place}
 use Rattle.mintcx_run.specs.declared.reply.Place.TheVariants as place
 use Rattle.mintcx_run.specs.declared.reply.Reply.{Reply}
+use Rattle.mintcx_run.specs.Warned.{IsWarned}
 
 -- ---- kinds of replies
 
@@ -164,14 +171,22 @@ IsGapReply (request.OfDesign what files clamp manner) reply = IsOutOfMemory repl
     ⊎ ((missing : Gap) × (call_for manner.format clamp what files ≡ Err missing) × IsMessage Usage reply)
 
 -- a topic names no refusal
-abbrev pub NamesNone : Text → Type 0
-NamesNone topic = (n : ℕ) → IsRefusalNumber n → Names topic n → ⊥
+abbrev pub NamesNoRefusal : Text → Type 0
+NamesNoRefusal topic = (n : ℕ) → IsRefusalNumber n → Names topic n → ⊥
 
 -- a page is that of the refusal that a topic names
-abbrev pub IsPageOf : Text → Text → Type 0
-IsPageOf topic page = (n : ℕ) × IsRefusalNumber n × Names topic n × IsOfNumber n page
+abbrev pub IsPageOfRefusal : Text → Text → Type 0
+IsPageOfRefusal topic page = (n : ℕ) × IsRefusalNumber n × Names topic n × IsOfNumber n page
 
--- the page of the refusal that a topic names, as an answer, or a message that it names none
+-- a topic names no refusal and no warning
+abbrev pub NamesNone : Text → Type 0
+NamesNone topic = NamesNoRefusal topic × NamesNoWarning topic
+
+-- a page is that of the refusal, or of the warning, that a topic names
+abbrev pub IsPageOf : Text → Text → Type 0
+IsPageOf topic page = IsPageOfRefusal topic page ⊎ IsWarningPage topic page
+
+-- the page that a topic names, as an answer, or a message that it names none
 abbrev pub IsExplanationReply : Text → Reply → Type 0
 IsExplanationReply topic reply = (NamesNone topic × IsMessage Usage reply)
     ⊎ ((page : Text) × IsPageOf topic page × IsSaying Done place.Output page reply)
@@ -255,12 +270,43 @@ abbrev pub AreClocks : Stated → Source → List Text → View → Told → Typ
 AreClocks stated from fronts view told = (titles : Titles) × (what : Clocks)
     × HasClocks large stated from titles view fronts what × IsToldOf what told
 
--- an answer for people without a certificate beside it: clocks, or another one
+-- it is told that nothing is drawn
+abbrev pub IsUndrawn : Told → Type 0
+IsUndrawn told = (told.status ≡ Found) × (told.is_message ≡ true) × (told.certificate ≡ None)
+
+-- what is told where a picture is asked for: the picture, a message that nothing is drawn, or what is said where there
+-- is no right schedule
+abbrev pub IsToldPicture : Pictured → Told → Type 0
+IsToldPicture (pictured.Shown (drawn.Picture text)) told = IsText Done text told
+IsToldPicture (pictured.Shown nothing) told = IsUndrawn told
+IsToldPicture (pictured.Denied text) told = IsText Found text told
+
+-- A picture of a design and of the file beside it; what the design is called isn't said.
+abbrev pub IsPictured : Motif → Source → List Text → View → Told → Type 0
+IsPictured shows from fronts view told = (design : Text) × (what : Pictured)
+    × HasPicture large shows from design view fronts what × IsToldPicture what told
+
+-- what is drawn for a job, where there is a picture
+abbrev pub motif_of : Job → Option Motif
+motif_of Optimise = Some motif.Optimum
+motif_of Verify = Some motif.Certificate
+motif_of Check = Some motif.Schedule
+motif_of Slack = Some motif.Slacks
+motif_of job = None
+
+-- the picture for a job, or another answer
+abbrev pub IsOfMotif : Option Motif → Source → Order → List Text → View → Told → Type 0
+IsOfMotif (Some shows) from order fronts view told = IsPictured shows from fronts view told
+IsOfMotif None from order fronts view told = IsLone order fronts view told
+
+-- an answer for people without a certificate beside it: clocks, a picture, or another one
 abbrev pub IsByAspect : Aspect → Command → Order → List Text → View → Told → Type 0
 IsByAspect aspect.Clocks (OfDesign Check from) order fronts view told =
     AreClocks stated.Schedule from fronts view told
 IsByAspect aspect.Clocks (OfDesign Verify from) order fronts view told =
     AreClocks stated.Certificate from fronts view told
+IsByAspect aspect.Picture (OfDesign job from) order fronts view told =
+    IsOfMotif (motif_of job) from order fronts view told
 IsByAspect aspect command order fronts view told = IsLone order fronts view told
 
 abbrev pub IsUncertified : Order → List Text → View → Told → Type 0
@@ -284,10 +330,11 @@ abbrev pub is_plain : Format → Bool
 is_plain format.Plain = true
 is_plain form = false
 
--- a schedule is told, or clocks, which have one form alone
+-- a schedule is told, or clocks, or a picture, which have one form alone
 abbrev pub has_one_form : Aspect → Bool
 has_one_form (aspect.Schedule cycle) = true
 has_one_form aspect.Clocks = true
+has_one_form aspect.Picture = true
 has_one_form told = false
 
 -- mintc's own answer is asked for
@@ -472,10 +519,11 @@ IsCornerReply files order corner own reply = IsOutOfMemory reply
 
 -- ---- the reply
 
--- the answer, where its order wants it; or why there is none, as a message; or memory was wanting
+-- the answer, where its order wants it, with its warnings; or why there is none, as a message; or memory was wanting
 abbrev pub IsFrontsReply : Option Files → Order → List Text → Reply → Type 0
 IsFrontsReply files order fronts reply = IsOutOfMemory reply
-    ⊎ (((told : Told) × IsFrontsAnswer order fronts told × IsPlaced order told reply)
+    ⊎ (((told : Told) × IsFrontsAnswer order fronts told × IsPlaced order told reply
+    × IsWarned order fronts reply.warnings)
     ⊎ (((refused : Refusal) × IsFrontsRefusal order fronts refused × IsRefusalReply files order refused reply)
     ⊎ ((corner : ℕ) × (own : Refusal) × IsFrontsRefusal order fronts (refusal.Corner corner)
     × IsRefusedCorner order fronts corner own × IsCornerReply files order corner own reply)))
@@ -484,10 +532,22 @@ IsFrontsReply files order fronts reply = IsOutOfMemory reply
 abbrev pub has_schedule : List Text → Bool
 has_schedule fronts = starts_with nat_eq (file_at fronts (length fronts - 1)) (codes "schedule ")
 
--- the command of a call, once its files are read: the clocks of a schedule's own text are those of `check`
+-- what is told of a certificate is told of a schedule's own text too: clocks, and a picture
+abbrev pub takes_schedules : Aspect → Bool
+takes_schedules aspect.Clocks = true
+takes_schedules aspect.Picture = true
+takes_schedules told = false
+
+-- what judges the schedule of the last file: `check` where that is a schedule's own text
+abbrev pub stated_job : List Text → Job
+stated_job fronts = if has_schedule fronts then Check else Verify
+
+-- the command of a call, once its files are read: the clocks and the picture of a schedule's own text are those of
+-- `check`
 abbrev pub command_as : Aspect → Command → List Text → Command
-command_as aspect.Clocks (OfDesign Verify from) fronts = OfDesign (if has_schedule fronts then Check else Verify) from
-command_as aspect command fronts = command
+command_as told (OfDesign Verify from) fronts =
+    OfDesign (if takes_schedules told then stated_job fronts else Verify) from
+command_as told command fronts = command
 
 -- an order, once its files are read
 abbrev pub read_as : Order → List Text → Order

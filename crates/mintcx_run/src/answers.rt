@@ -8,20 +8,23 @@ ghost use Rattle.mintc_command_answers.specs.Corners.{IsFirstRefused, corners_of
 ghost use Rattle.mintcx_answers.specs.Answers.{IsOnFiles};
 ghost use Rattle.mintcx_answers.specs.Clocks.{job_of};
 ghost use Rattle.mintcx_answers.specs.Halts.{HaltsAt};
+ghost use Rattle.mintcx_answers.specs.Pictures.{job_of as job_for};
 ghost use Rattle.mintcx_run.specs.Replies.{AreClocks, IsAnswered, IsCertified, IsForPeople, IsFrontsAnswer, IsFrontsRefusal};
 ghost use Rattle.mintcx_run.specs.Replies.{IsLone, IsPlain, IsRefused, IsRefusedCorner, certified_source};
-ghost use Rattle.mintcx_run.specs.Replies.{IsToldOf, IsUncertified, has_one_form, is_own};
+ghost use Rattle.mintcx_run.specs.Replies.{IsPictured, IsToldOf, IsToldPicture, IsUncertified, IsUndrawn, has_one_form};
+ghost use Rattle.mintcx_run.specs.Replies.{is_own, motif_of};
 
 use crate::libraries::describe;
 use crate::orders::Order;
 use mintc_command_answers::{Answer, Command, Job, Source, Status, answer_to};
 use mintc_text::{Bytes, Limits, Name, OutOfMemory, Stop};
 use mintcx_answers::{
-    Clocks, Halt, Question, Stated, Statement, answer_text, certified_text, clocks_text,
-    names_beside, subject_of, titles_of,
+    Clocks, Halt, Motif, Pictured, Question, Sketch, Stated, Statement, answer_text,
+    certified_text, clocks_text, names_beside, picture_for, subject_of, titles_of,
 };
 use mintcx_frame::View;
 use mintcx_manners::Format;
+use mintcx_picture::Drawn;
 use mintcx_translation::{Aspect, Call};
 use std::alloc::Global;
 
@@ -186,6 +189,91 @@ fn clocks_answer(
     Ok(told_of(alloc, clocks)?)
 }
 
+/// A message that nothing is drawn, and why.
+fn undrawn(alloc: Global, why: &str) -> Result<Told, OutOfMemory>
+    ensures value { IfOk result IsUndrawn }
+    ensures of_command { IfOk result (λ told. IsOfCommand told.status) }
+{
+    let text = format!(in alloc; "error: nothing is drawn: {why}\n")?;
+    Ok(Told {
+        status: Status::Found,
+        text: Bytes::new(text.into_bytes()),
+        is_message: true,
+        certificate: None,
+    })
+}
+
+/// What is told where a picture is asked for.
+fn told_picture(alloc: Global, pictured: Pictured) -> Result<Told, OutOfMemory>
+    ensures value { IfOk result (IsToldPicture pictured) }
+    ensures of_command { IfOk result (λ told. IsOfCommand told.status) }
+{
+    match pictured {
+        Pictured::Shown(Drawn::Picture(text)) => Ok(Told {
+            status: Status::Done,
+            text,
+            is_message: false,
+            certificate: None,
+        }),
+        Pictured::Shown(Drawn::NoSchedule) => undrawn(alloc, "no schedule is right"),
+        Pictured::Shown(Drawn::NoCycle) => undrawn(alloc, "the least cycle time is 0"),
+        Pictured::Shown(Drawn::TooLong) => undrawn(alloc, "the chain takes more than 80 cycles"),
+        Pictured::Shown(Drawn::Unsettled) => {
+            undrawn(alloc, "data comes later each time round a loop")
+        }
+        Pictured::Denied(text) => Ok(Told {
+            status: Status::Found,
+            text,
+            is_message: false,
+            certificate: None,
+        }),
+    }
+}
+
+/// What is drawn for a job, where there is a picture.
+fn motif_of(job: Job) -> Option<Motif>
+    ensures value { result ≡ motif_of job }
+    ensures same { IfSome result (λ motif. job_for motif ≡ job) }
+{
+    match job {
+        Job::Optimise => Some(Motif::Optimum),
+        Job::Verify => Some(Motif::Certificate),
+        Job::Check => Some(Motif::Schedule),
+        Job::Slack => Some(Motif::Slacks),
+        Job::Report | Job::Safe => None,
+    }
+}
+
+/// A picture of a design and of the file beside it.
+fn picture_answer(
+    alloc: Global,
+    motif: Motif,
+    source: Source,
+    names: &[Name],
+    view: &View,
+    files: &mut [Bytes],
+) -> Result<Told, Stop>
+    requires count { length files.old ≡ length (roles_of (Command.OfDesign (job_for motif) source)) }
+    requires names { length names.now ≡ length files.old }
+    ensures value { IfOk result (IsPictured motif source files.old view.now) }
+    ensures of_command { IfOk result (λ told. IsOfCommand told.status) }
+    ensures stop { IfErr result
+        (StopsAt (IsFirstRefusal large (Command.OfDesign (job_for motif) source) files.old)) }
+{
+    let command = Command::OfDesign {
+        job: motif.job(),
+        source,
+    };
+    let beside = names_beside(alloc, command, names, files)?;
+    let sketch = Sketch {
+        source,
+        motif,
+        beside: beside.items(),
+    };
+    let pictured = picture_for(alloc, &Limits::large(), &sketch, view, files)?;
+    Ok(told_picture(alloc, pictured)?)
+}
+
 /// The answer to a call for people, of an optimum without a certificate beside it.
 fn uncertified_answer(
     alloc: Global,
@@ -218,6 +306,10 @@ fn uncertified_answer(
                 source,
             },
         ) => Ok(clocks_answer(alloc, Stated::Certificate, source, names, view, files)?),
+        (Aspect::Picture, Command::OfDesign { job, source }) => match motif_of(job) {
+            Some(motif) => Ok(picture_answer(alloc, motif, source, names, view, files)?),
+            None => lone_answer(alloc, order, view, files),
+        },
         _ => lone_answer(alloc, order, view, files),
     }
 }
@@ -243,7 +335,10 @@ fn people_answer(alloc: Global, order: &Order, files: &mut [Bytes]) -> Result<To
 fn has_one_form(aspect: Aspect) -> bool
     ensures { result ≡ has_one_form aspect }
 {
-    matches!(aspect, Aspect::Schedule(_) | Aspect::Clocks)
+    matches!(
+        aspect,
+        Aspect::Schedule(_) | Aspect::Clocks | Aspect::Picture
+    )
 }
 
 /// Whether mintc's own answer is asked for.

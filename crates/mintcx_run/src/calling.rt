@@ -6,7 +6,7 @@ ghost use Rattle.mintc_command_answers.specs.Commands.{IsNumberInRange, roles_of
 ghost use Rattle.mintc_command_answers.specs.declared.status.Status.TheVariants.{ReadFault, WriteFault};
 ghost use Rattle.mintcx_answers.specs.Answers.{IsOnFiles};
 ghost use Rattle.mintcx_run.specs.Replies.{IsCallReply, IsGivenReply, IsPlaced, IsReply, beside_of, command_as};
-ghost use Rattle.mintcx_run.specs.Replies.{has_schedule, place_of, read_as, told_place};
+ghost use Rattle.mintcx_run.specs.Replies.{has_schedule, place_of, read_as, takes_schedules, told_place};
 
 use crate::answers::{Told, fronts_answer};
 use crate::orders::{Order, order_for};
@@ -14,6 +14,7 @@ use crate::projects::given_of;
 use crate::reading::read_files;
 use crate::refusals::{refused, refused_corner};
 use crate::reply::{Beside, Place, Reply};
+use crate::warned::warnings_for;
 use mintc_command_answers::{Command, Job};
 use mintc_text::{Bytes, Name, Shelf};
 use mintcx_answers::Halt;
@@ -55,15 +56,17 @@ fn told_place(manner: Manner, is_message: bool) -> Place
     }
 }
 
-/// The reply that tells an answer, where its order wants it.
-fn placed(order: Order, told: Told) -> Reply
-    ensures { IsPlaced order told result }
+/// The reply that tells an answer, where its order wants it, and warnings.
+fn placed(order: Order, told: Told, warnings: Bytes) -> Reply
+    ensures placed { IsPlaced order told result }
+    ensures warned { result.warnings ≡ warnings }
 {
     Reply {
         status: told.status,
         place: told_place(order.manner, told.is_message),
         text: told.text,
         beside: beside_of(order.call.certificate, told.certificate),
+        warnings,
     }
 }
 
@@ -74,21 +77,26 @@ fn has_schedule(files: &[Bytes]) -> bool
     !files.is_empty() && files[files.len() - 1].items().starts_with(b"schedule ")
 }
 
-/// The command of a call, once its files are read: the clocks of a schedule's own text are those of `check`.
+/// Whether what is told of a certificate is told of a schedule's own text too.
+fn takes_schedules(aspect: Aspect) -> bool
+    ensures { result ≡ takes_schedules aspect }
+{
+    matches!(aspect, Aspect::Clocks | Aspect::Picture)
+}
+
+/// The command of a call, once its files are read: the clocks and the picture of a schedule's own text are those of
+/// `check`.
 fn command_as(aspect: Aspect, command: Command, files: &[Bytes]) -> Command
     ensures value { result ≡ command_as aspect command files.now }
     ensures count { length (roles_of result) ≡ length (roles_of command) }
     ensures in_range { IsNumberInRange command → IsNumberInRange result }
     ensures on_files { IsOnFiles command → IsOnFiles result }
 {
-    match (aspect, command) {
-        (
-            Aspect::Clocks,
-            Command::OfDesign {
-                job: Job::Verify,
-                source,
-            },
-        ) => {
+    match command {
+        Command::OfDesign {
+            job: Job::Verify,
+            source,
+        } if takes_schedules(aspect) => {
             let job = if has_schedule(files) {
                 Job::Check
             } else {
@@ -135,8 +143,9 @@ fn call_reply<S: Shelf>(alloc: Global, order: Order, shelf: &mut S) -> Reply
         Err(reply) => return reply,
     };
     let order = read_as(order, files.as_slice());
+    let warnings = warnings_for(alloc, &order, files.as_slice());
     match fronts_answer(alloc, &order, files.as_mut_slice()) {
-        Ok(told) => placed(order, told),
+        Ok(told) => placed(order, told, warnings),
         Err(Halt::Refused(refusal)) => refused(alloc, &order, &refusal, shelf),
         Err(Halt::Corner { corner, own }) => refused_corner(alloc, &order, corner, &own, shelf),
         Err(Halt::OutOfMemory) => Reply::out_of_memory(alloc),

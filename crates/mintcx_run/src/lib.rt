@@ -22,6 +22,7 @@ mod projects;
 mod reading;
 mod refusals;
 mod reply;
+mod warned;
 
 pub use adapters::OutputFolder;
 pub use folder::Folder;

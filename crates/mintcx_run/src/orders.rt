@@ -6,13 +6,14 @@ ghost use Rattle.mintc_command_answers.specs.Commands.{IsNumberInRange, roles_of
 ghost use Rattle.mintcx_answers.specs.Answers.{IsOnFiles};
 ghost use Rattle.mintcx_requests.specs.Requests.{request_of};
 ghost use Rattle.mintcx_run.specs.Replies.{IsEarlyReply, IsExplanationReply, IsFaultyReply, IsGapReply};
-ghost use Rattle.mintcx_run.specs.Replies.{IsOrderOf, IsOrdered, IsOtherReply, IsPageOf, NamesNone};
+ghost use Rattle.mintcx_run.specs.Replies.{IsOrderOf, IsOrdered, IsOtherReply, IsPageOf, IsPageOfRefusal};
+ghost use Rattle.mintcx_run.specs.Replies.{NamesNoRefusal, NamesNone};
 
 use crate::projects::settings_of;
 use crate::reply::{Place, Reply};
 use mintc_command_answers::Status;
 use mintc_text::{Name, Shelf};
-use mintcx_explanations::{explanation_of, topic_number};
+use mintcx_explanations::{explanation_of, topic_number, warning_explanation};
 use mintcx_project::Settings;
 use mintcx_requests::{Design, Given, Manner, Request, Task, request_of};
 use mintcx_translation::{Call, NoCall, call_of};
@@ -59,13 +60,23 @@ fn design_order(
 }
 
 /// The page of the refusal that a topic names.
-fn page_of(topic: &[u8]) -> Option<&'static str>
-    ensures { MatchOption result (NamesNone topic.now) (λ page. IsPageOf topic.now page.now) }
+fn refusal_page(topic: &[u8]) -> Option<&'static str>
+    ensures { MatchOption result (NamesNoRefusal topic.now) (λ page. IsPageOfRefusal topic.now page.now) }
 {
     explanation_of(topic_number(topic)?)
 }
 
-/// The page of the refusal that a topic names, or that it names none.
+/// The page of the refusal or of the warning that a topic names.
+fn page_of(topic: &[u8]) -> Option<&'static str>
+    ensures { MatchOption result (NamesNone topic.now) (λ page. IsPageOf topic.now page.now) }
+{
+    match refusal_page(topic) {
+        Some(page) => Some(page),
+        None => warning_explanation(topic),
+    }
+}
+
+/// The page that a topic names, or that it names none.
 fn explanation_reply(alloc: Global, topic: &Name) -> Reply
     ensures reply { IsExplanationReply topic.now result }
     ensures no_read { result.status ≢ Status.ReadFault }
@@ -76,7 +87,7 @@ fn explanation_reply(alloc: Global, topic: &Name) -> Reply
         None => Reply::message(
             alloc,
             Status::Usage,
-            &"there is no such refusal; they are numbered 1 to 19, 21 and 22",
+            &"there is no such page; refusals are 1 to 19, 21 and 22, warnings 'outputs' and 'same-phase'",
         ),
     }
 }

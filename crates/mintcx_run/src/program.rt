@@ -1,11 +1,11 @@
 //! A run: words, files, one answer.
 ghost use Rattle.std.specs.Prelude.{◌≡◌, ◌≢◌, ◌≤◌, ◌⊎◌, ℕ, Some, OnErr, OnOk, map, string_bytes};
-ghost use Rattle.mintc_text.specs.Outside.{Rose};
+ghost use Rattle.mintc_text.specs.Outside.{Rose, TakesFront};
 ghost use Rattle.mintc_command.specs.Answers.{MakesAtMost};
 ghost use Rattle.mintcx_run.specs.declared.reply.Beside.{Beside};
 ghost use Rattle.mintcx_run.specs.declared.reply.Reply.{Reply};
 ghost use Rattle.mintcx_run.specs.Deliveries.{IsAt, IsDelivered, IsMade, IsMadeBeside, IsStill, IsToldOf, IsWritten};
-ghost use Rattle.mintcx_run.specs.Deliveries.{sent};
+ghost use Rattle.mintcx_run.specs.Deliveries.{AreTold, sent};
 ghost use Rattle.mintcx_run.specs.Replies.{IsReply};
 
 use crate::calling::reply_to;
@@ -31,9 +31,10 @@ fn write<O: Sink>(out: &mut O, status: Status, text: &[u8]) -> Status
 
 /// Tells a message by one call. Where that can't be written, nothing is said of it.
 fn tell<E: Sink>(errors: &mut E, text: &[u8])
-    ensures { MakesAtMost 1 (E.calls errors.old) (E.calls errors.new) }
+    ensures front { TakesFront (E.taken errors.old) (E.taken errors.new) text.now }
+    ensures tells { MakesAtMost 1 (E.calls errors.old) (E.calls errors.new) }
 {
-    let _ = errors.write(text);
+    let _written = errors.write(text);
 }
 
 /// Tells that a file couldn't be made, by at most one call.
@@ -130,8 +131,18 @@ fn put_text<O: Sink, E: Sink, F: Folder>(
     }
 }
 
-/// Makes the file beside a reply, and writes its text where that could be made. The status is the reply's, or that one
-/// of the two couldn't be written.
+/// Tells warnings by one call, where there are some.
+fn warn<E: Sink>(errors: &mut E, warnings: &[u8])
+    ensures told { AreTold warnings.now (sent (E.taken errors.old) (E.taken errors.new)) }
+    ensures tells { MakesAtMost 1 (E.calls errors.old) (E.calls errors.new) }
+{
+    if !warnings.is_empty() {
+        tell(errors, warnings);
+    }
+}
+
+/// Makes the file beside a reply, and tells its warnings and writes its text where that could be made. The status is the
+/// reply's, or that one of the two couldn't be written.
 fn deliver<O: Sink, E: Sink, F: Folder>(
     alloc: Global,
     reply: &Reply,
@@ -146,18 +157,22 @@ fn deliver<O: Sink, E: Sink, F: Folder>(
         Rose (O.faults out.old) (O.faults out.new) ⊎ Rose (F.faults folder.old) (F.faults folder.new) }
     ensures unread { result ≡ Status.ReadFault → reply.now.status ≡ Status.ReadFault }
     ensures writes { MakesAtMost 1 (O.calls out.old) (O.calls out.new) }
-    ensures tells { MakesAtMost 1 (E.calls errors.old) (E.calls errors.new) }
+    ensures tells { MakesAtMost 2 (E.calls errors.old) (E.calls errors.new) }
     ensures makes { MakesAtMost 2 (F.calls folder.old) (F.calls folder.new) }
 {
     match make_beside(alloc, &reply.beside, errors, folder) {
-        Ok(()) => put_text(alloc, reply, out, errors, folder),
+        Ok(()) => {
+            warn(errors, reply.warnings.items());
+            put_text(alloc, reply, out, errors, folder)
+        }
         Err(_) => Status::WriteFault,
     }
 }
 
 /// Does what the words ask, of which the first is the program's own name: reads the project file and the files that
 /// they name, each once and in their order, and one that is refused once more; makes the file of a certificate, where
-/// one is wanted, and writes the answer, or what is wrong, by one call. Nothing is written before the text is whole.
+/// one is wanted, tells warnings by one call, and writes the answer, or what is wrong, by one call. Nothing is written
+/// before the text is whole.
 pub fn run<S: Shelf, O: Sink, E: Sink, F: Folder>(
     alloc: Global,
     words: &[String],
@@ -176,7 +191,7 @@ pub fn run<S: Shelf, O: Sink, E: Sink, F: Folder>(
     ensures write_cause { result ≡ Status.WriteFault →
         Rose (O.faults out.old) (O.faults out.new) ⊎ Rose (F.faults folder.old) (F.faults folder.new) }
     ensures writes { MakesAtMost 1 (O.calls out.old) (O.calls out.new) }
-    ensures tells { MakesAtMost 1 (E.calls errors.old) (E.calls errors.new) }
+    ensures tells { MakesAtMost 2 (E.calls errors.old) (E.calls errors.new) }
     ensures makes { MakesAtMost 2 (F.calls folder.old) (F.calls folder.new) }
 {
     let reply = reply_to(alloc, words, shelf);

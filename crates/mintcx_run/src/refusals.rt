@@ -168,6 +168,7 @@ fn reply_of(alloc: Global, order: &Order, said: Result<Bytes, OutOfMemory>) -> R
             place: refusal_place(order),
             text,
             beside: None,
+            warnings: Bytes::new(Vec::new(alloc)),
         },
         Err(OutOfMemory) => Reply::out_of_memory(alloc),
     }

@@ -34,6 +34,8 @@ pub struct Reply {
     pub place: Place,
     pub text: Bytes,
     pub beside: Option<Beside>,
+    /// What is told to the second sink before the text; no byte where nothing is.
+    pub warnings: Bytes,
 }
 
 impl Reply {
@@ -46,6 +48,7 @@ impl Reply {
             place: Place::Nowhere,
             text: Bytes::new(Vec::new(alloc)),
             beside: None,
+            warnings: Bytes::new(Vec::new(alloc)),
         }
     }
 
@@ -59,6 +62,7 @@ impl Reply {
                 place,
                 text: Bytes::new(bytes),
                 beside: None,
+                warnings: Bytes::new(Vec::new(alloc)),
             },
             Err(_) => Reply::out_of_memory(alloc),
         }

@@ -164,6 +164,15 @@ const TABLE: Rows = Rows {
             "mintcx verify two.cert --format csv",
             "0|verdict,test,fails\r\nvalid,,\r\n||",
         ),
+        (
+            "mintcx draw --format json",
+            "3||error: '--format json' isn't there for 'schedule', 'sdc', 'draw', '--histogram' and \
+             '--certificate'\n|",
+        ),
+        (
+            "mintcx draw fast.schedule",
+            "1||error: nothing is drawn: data comes later each time round a loop\n|",
+        ),
     ],
 };
 

@@ -393,7 +393,7 @@ const TABLE: Rows = Rows {
         ("mintcx --version", "0|mintcx 0.1.0\n||"),
         (
             "mintcx explain 20",
-            "3||error: there is no such refusal; they are numbered 1 to 19, 21 and 22\n|",
+            "3||error: there is no such page; refusals are 1 to 19, 21 and 22, warnings 'outputs' and 'same-phase'\n|",
         ),
         ("mintcx optimise", LEAST),
         ("mintcx report", REPORT),
@@ -414,7 +414,7 @@ const TABLE: Rows = Rows {
         ),
         (
             "mintcx slack --histogram --format csv",
-            "3||error: '--format csv' isn't there for 'schedule', 'sdc', '--histogram' and '--certificate'\n|",
+            "3||error: '--format csv' isn't there for 'schedule', 'sdc', 'draw', '--histogram' and '--certificate'\n|",
         ),
         (
             "mintcx check two.schedule --format csv",

@@ -50,6 +50,7 @@ own_file (task.Check schedule) = Some schedule
 own_file (task.Verify certificate) = Some certificate
 own_file (task.Schedule certificate cycle) = certificate
 own_file (task.Sdc file) = Some file
+own_file (task.Draw file histogram) = file
 own_file what = None
 
 -- the task is about several delay files
@@ -73,7 +74,14 @@ abbrev pub schedule_job : Option Text → Job
 schedule_job (Some certificate) = job.Verify
 schedule_job None = job.Optimise
 
--- the job of a task on one design; clocks are those of a certificate, where the file isn't a schedule's own text
+-- a picture is of all slacks, or of an optimum, or of what a file says
+abbrev pub draw_job : Option Text → Bool → Job
+draw_job file true = job.Slack
+draw_job (Some file) false = job.Verify
+draw_job None false = job.Optimise
+
+-- the job of a task on one design; clocks and pictures are those of a certificate, where the file isn't a schedule's own
+-- text
 abbrev pub job_of : Task → Result Job Gap
 job_of (task.Check schedule) = Ok job.Check
 job_of (task.Optimise certificate cycle) = Ok job.Optimise
@@ -84,7 +92,7 @@ job_of (task.Slack histogram) = Ok job.Slack
 job_of task.Corners = Err gap.Misfit
 job_of (task.Schedule certificate cycle) = Ok (schedule_job certificate)
 job_of (task.Sdc file) = Ok job.Verify
-job_of (task.Draw file histogram) = Err gap.Draw
+job_of (task.Draw file histogram) = Ok (draw_job file histogram)
 
 -- what of a task's command is told
 abbrev pub aspect_of : Task → Aspect
@@ -92,6 +100,7 @@ aspect_of (task.Optimise certificate (Some cycle)) = aspect.Cycle cycle
 aspect_of (task.Slack true) = aspect.Histogram
 aspect_of (task.Schedule certificate cycle) = aspect.Schedule cycle
 aspect_of (task.Sdc file) = aspect.Clocks
+aspect_of (task.Draw file histogram) = aspect.Picture
 aspect_of what = aspect.Whole
 
 -- the source of a design with these cells
@@ -138,7 +147,7 @@ is_certified (task.Optimise (Some name) cycle) = true
 is_certified what = false
 
 -- what mintc has no text for, and a certificate beside its text, which is one; a schedule has one text alone, in
--- mintc's form, and so have clocks, as SDC
+-- mintc's form, and so have clocks, as SDC, and pictures, as SVG
 abbrev pub plain_gap : Bool → Aspect → Option Gap
 plain_gap true told = Some gap.Certificate
 plain_gap false (aspect.Cycle cycle) = Some gap.Cycle

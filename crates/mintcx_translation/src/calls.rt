@@ -37,6 +37,9 @@ pub enum Aspect {
     CycleObject(u32),
     /// The clocks as SDC: of `check` those of the schedule, of `verify` those of the certificate's.
     Clocks,
+    /// A picture as SVG: of `check` how the schedule fares, of `optimise` and `verify` the schedule with the chain that
+    /// decides, of `slack` the pairs counted by their slack.
+    Picture,
 }
 
 /// A command of mintc, what of it is told, and the names of its files, in their order. Where `of_library` is set, the
@@ -54,7 +57,6 @@ pub struct Call {
 /// What of a request is not there yet.
 #[derive(Clone, Copy, Debug, PartialEq, Eq)]
 pub enum Gap {
-    Draw,
     /// The form of the answer.
     Json,
     /// The form of the answer.
@@ -210,6 +212,10 @@ fn beside_of(task: Task) -> Beside
             own: Some(file),
             certificate: None,
         },
+        Task::Draw { file, .. } => Beside {
+            own: file,
+            certificate: None,
+        },
         _ => Beside {
             own: None,
             certificate: None,
@@ -253,7 +259,12 @@ fn job_of(task: &Task) -> Result<Job, Gap>
             certificate: None,
             ..
         } => Ok(Job::Optimise),
-        Task::Draw { .. } => Err(Gap::Draw),
+        Task::Draw {
+            histogram: true,
+            ..
+        } => Ok(Job::Slack),
+        Task::Draw { file: Some(_), .. } => Ok(Job::Verify),
+        Task::Draw { file: None, .. } => Ok(Job::Optimise),
     }
 }
 
@@ -269,6 +280,7 @@ fn aspect_of(task: &Task) -> Aspect
         Task::Slack { histogram: true } => Aspect::Histogram,
         Task::Schedule { cycle, .. } => Aspect::Schedule(*cycle),
         Task::Sdc { .. } => Aspect::Clocks,
+        Task::Draw { .. } => Aspect::Picture,
         _ => Aspect::Whole,
     }
 }
@@ -426,7 +438,7 @@ fn plain_gap(certified: bool, aspect: Aspect) -> Option<Gap>
         return Some(Gap::Certificate);
     }
     match aspect {
-        Aspect::Whole | Aspect::Schedule(_) | Aspect::Clocks => None,
+        Aspect::Whole | Aspect::Schedule(_) | Aspect::Clocks | Aspect::Picture => None,
         Aspect::Rows | Aspect::CycleRows(_) | Aspect::Object | Aspect::CycleObject(_) => None,
         Aspect::Cycle(_) => Some(Gap::Cycle),
         Aspect::Histogram => Some(Gap::Histogram),

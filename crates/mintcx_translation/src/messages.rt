@@ -8,12 +8,11 @@ impl Gap {
     /// What is said of it.
     fn text(self) -> &'static str {
         match self {
-            Gap::Draw => "'draw' isn't there yet",
             Gap::Json => {
-                "'--format json' isn't there for 'schedule', 'sdc', '--histogram' and '--certificate'"
+                "'--format json' isn't there for 'schedule', 'sdc', 'draw', '--histogram' and '--certificate'"
             }
             Gap::Csv => {
-                "'--format csv' isn't there for 'schedule', 'sdc', '--histogram' and '--certificate'"
+                "'--format csv' isn't there for 'schedule', 'sdc', 'draw', '--histogram' and '--certificate'"
             }
             Gap::Clamp => "'--clamp-negative' isn't there yet",
             Gap::Cycle => "'--cycle' has no plain form; '--format text' has one",

@@ -1,7 +1,9 @@
-use Rattle.mintcx_run.proofs.ReplyLaws.{page_found}
+use Rattle.std.proofs.Common.{inl}
+use Rattle.mintcx_run.proofs.ReplyLaws.{page_of_warning}
 use Rattle.mintcx_run.proofs.orders.page_of.Goals as goal
 
-pub returns : goal.returns
-returns c =
-    let named = c.in_ok-topic_number.ensures in
-    page_found c.explanation_of.result (λ page. page.now) c.args.topic.now c.in_ok-topic_number.field-0 named.0 named.1 c.explanation_of.ensures
+pub returns-in-Some : goal.returns-in-Some
+returns-in-Some c = inl c.in-Some.ensures
+
+pub returns-in-None : goal.returns-in-None
+returns-in-None c = page_of_warning c.warning_explanation.result (λ page. page.now) c.args.topic.now c.in-None.ensures c.warning_explanation.ensures

@@ -1,0 +1,6 @@
+mod PlaceLaws
+mod FareLaws
+mod SourceLaws
+mod PairLaws
+mod WideLaws
+mod DrawnLaws

@@ -1,0 +1,4 @@
+-- What contracts of public calls say:
+pub mod Places
+pub mod Items
+pub mod Drawings
