@@ -22,7 +22,7 @@ LIBRARY = pathlib.Path("/usr/share/qflow/tech/osu035/osu035_stdcells.lib")
 TOOLS = ("yosys", "sta")
 WRITTEN = {
     "netlist.v", "delays.sdf", "cells.toml", "clock.toml", "mintc.toml", "certificate", "least.text", "report.text", "verdict.text",
-    "least.schedule",
+    "least.schedule", "least.svg",
 }
 # The source, its top, and the first words of the answer.
 DESIGNS = [

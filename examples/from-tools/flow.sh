@@ -6,7 +6,7 @@
 # RTL is the source, TOP its top module, LIB the Liberty file of the cells. What comes of it is left in FOLDER, or in TOP.flow:
 #
 #     netlist.v, delays.sdf, cells.toml, clock.toml    the design, and mintc.toml, which names these four to mintcx
-#     least.text, report.text, least.schedule          what mintcx answers
+#     least.text, report.text, least.schedule, least.svg  what mintcx answers
 #     certificate, verdict.text                        the proof of the least cycle time, and what `verify` says of it
 #     synthesis.ys, delays.tcl                         what the tools were told, and their .log
 #
@@ -187,13 +187,14 @@ sdf = "delays.sdf"
 cells = "cells.toml"
 clock = "clock.toml"
 TOML
-rm -f clock.ports unmapped certificate *.text least.schedule
+rm -f clock.ports unmapped certificate *.text least.schedule least.svg
 "$mintcx" optimise -p mintc.toml --certificate certificate -o least.text
 status=$?
 if [ $status -le 1 ]; then
     "$mintcx" report -p mintc.toml -o report.text
     "$mintcx" verify certificate -p mintc.toml -o verdict.text || status=$?
     [ $status != 0 ] || "$mintcx" schedule -p mintc.toml -o least.schedule
+    [ $status != 0 ] || "$mintcx" draw -p mintc.toml -o least.svg
     cat least.text
 fi
 exit $status
