@@ -2,9 +2,8 @@
 write on standard error, and one of mintcx only what an example says.
 
 - Examples: for each line `PROGRAM WORDS > ANSWER` of a file `command` below examples/, in its folder, the program writes what the file
-  ANSWER has, and ends with the status in the same line of a file `status` beside it, 0 where there is no such file. Where a chain
-  begins is free for mintc, so its lines are compared as a ring. Where ` 2> WARNINGS` follows, mintcx writes what the file WARNINGS has on
-  standard error.
+  ANSWER has, to the byte, and ends with the status in the same line of a file `status` beside it, 0 where there is no such file. Where
+  ` 2> WARNINGS` follows, mintcx writes what the file WARNINGS has on standard error.
 - Plain: for each line of mintc, mintcx with the same files by options and `--format plain` writes what mintc writes and ends so.
 - Objects: for each line of mintc, mintcx with `--format json` writes one line that Python reads, with the numbers of mintc.
 - Statuses 2 to 7 of each program: 0 and 1 are those of examples.
@@ -58,21 +57,6 @@ def differences(what, ran, status, output, errors=b""):
         yield f"{what}: {ran[0]}, {ran[1][:99]}, {ran[2][:99]} in place of {status}, {output[:99]}, {errors[:99]}"
 
 
-def parted(text):
-    """The lines up to the one that begins a chain, that one too, and the lines after it but for a last `end`."""
-    lines = text.split("\n")
-    begins = next((n for n, line in enumerate(lines) if line.startswith("chain ")), len(lines)) + 1
-    return lines[:begins], [line for line in lines[begins:] if line not in ("", "end")]
-
-
-def is_same(text, wanted):
-    """Whether a text is the wanted one, wherever its chain begins."""
-    front, chain = parted(text)
-    other_front, ring = parted(wanted)
-    turns = [ring[n:] + ring[:n] for n in range(len(ring))] or [ring]
-    return front == other_front and chain in turns
-
-
 def examples(folder):
     """The lines of the examples below a folder: what each is, its folder, its program, its words, its status, its answer and its warnings."""
     for command in sorted(folder.rglob("command")):
@@ -87,20 +71,10 @@ def examples(folder):
             yield f"{folder.relative_to(TOP)}: {line}", folder, PROGRAMS[name], words, int(status), answer.decode(), b"".join(warnings)
 
 
-def other_answers(what, ran, status, wanted):
-    """Says where a run has another status, or another answer, wherever its chain begins."""
-    output = ran[1] if is_same(ran[1].decode(), wanted) else wanted.encode()
-    yield from differences(what, ran, status, output)
-
-
 def wrong_examples():
     """Examples with another answer or status."""
     for what, folder, program, words, status, wanted, warnings in examples(TOP / "examples"):
-        ran = run(program, words, folder)
-        if program == MINTCX:
-            yield from differences(what, ran, status, wanted.encode(), warnings)
-        else:
-            yield from other_answers(what, ran, status, wanted)
+        yield from differences(what, run(program, words, folder), status, wanted.encode(), warnings)
 
 
 def with_options(words):
@@ -191,7 +165,7 @@ def wrong_growths():
         pages = least
         while (ran := with_pages(pages, words, folder)) == (6, b"", b""):
             pages += 1
-        yield from other_answers(f"{what}, with {pages} pages of memory", ran, status, wanted)
+        yield from differences(f"{what}, with {pages} pages of memory", ran, status, wanted.encode())
         if pages < least + 10:
             yield f"{what}: {pages - least} pages more than none are enough"
 

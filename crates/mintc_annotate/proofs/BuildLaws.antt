@@ -29,7 +29,7 @@ use Rattle.mintc_annotate.specs.Phases.{storage}
 use Rattle.mintc_annotate.specs.Counts.{no_listed, place_bit, with_port}
 use Rattle.mintc_annotate.specs.Gathered.{AreBits}
 use Rattle.mintc_annotate.specs.Made.{RangeOf, bits_in, bits_of, number_in, element_of, elements_at, storage_elements, pin_arc, join_arc, leaf_arcs, input_arcs, output_arcs, arcs_with}
-use Rattle.mintc_annotate.proofs.TraceLaws.{stored, stored_more, stored_split, stored_all, leaf_number, within_all}
+use Rattle.mintc_annotate.proofs.SharedTraceLaws.{stored, stored_more, stored_split, stored_all, leaf_number, within_all}
 use Rattle.mintc_annotate.proofs.SearchLaws.{range_more, cells_more}
 use Rattle.mintc_annotate.proofs.PartLimits.{all_bits}
 

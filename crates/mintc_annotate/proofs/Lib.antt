@@ -1,14 +1,15 @@
+pub mod SharedPartLaws
 mod AnnotateLaws
 mod ArcLimits
 mod BuildLaws
 mod CountLaws
-mod DesignLaws
+pub mod SharedDesignLaws
 mod DesignLimits
 mod ElementLimits
 mod ListingLaws
 mod PartLimits
 mod JumpLaws
 mod SearchLaws
-mod TraceLaws
+pub mod SharedTraceLaws
 mod WorkedFiles
-mod EachLaws
+pub mod SharedEachLaws

@@ -32,7 +32,7 @@ use Rattle.mintc_annotate_resolve.proofs.SharedRangeLimits.{AreSaid, range_in, a
 use Rattle.mintc_annotate.proofs.ElementLimits.{AreDelays, delay_is, order_is, or_in, KeepsHold}
 use Rattle.mintc_annotate.proofs.ArcLimits.{none_delays, inner_arc, data_arc, output_arc, joins_in, inputs_in, outputs_in, pins_count}
 use Rattle.mintc_annotate.proofs.DesignLimits.{elements_in, bound_is}
-use Rattle.mintc_annotate.proofs.TraceLaws.{number_yes}
+use Rattle.mintc_annotate.proofs.SharedTraceLaws.{number_yes}
 
 flat_all : {A : Type 0} (P : A → Type 0) (f : ℕ → List A) (xs : List ℕ) → All (λ x. All P (f x)) xs → All P (flat_map f xs)
 flat_all P f [] all = All-nil P

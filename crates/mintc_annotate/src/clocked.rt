@@ -15,15 +15,15 @@ use std::alloc::Global;
 
 /// Where the phases of a clock stand, and how many bits its listed inputs and outputs have, each up to `MOST_TOLD`.
 #[derive(Drop)]
-pub(crate) struct Clocked {
-    pub(crate) spots: Vec<Spot>,
-    pub(crate) inputs: u64,
-    pub(crate) outputs: u64,
+pub struct Clocked {
+    pub spots: Vec<Spot>,
+    pub inputs: u64,
+    pub outputs: u64,
 }
 
 /// The ports that a clock names. The refusal is NoInstance of the clock, with the first phase whose port isn't one
 /// bit of an input, or the first listed port that isn't there.
-pub(crate) fn clock_ports(
+pub fn clock_ports(
     alloc: Global,
     names: &[Name],
     ports: &[TopPort],

@@ -25,8 +25,12 @@ mod timed;
 mod tracing;
 
 pub use annotating::annotate;
+pub use clocked::{Clocked, clock_ports};
 pub use laws::{
     annotate_refusals_are_determined, designs_are_determined, designs_are_not_refused,
     there_is_a_design_or_a_refusal,
 };
-pub use tracing::trace_phases;
+pub use listing::{ListedBit, ListedBits, listed_bits};
+pub use naming::leaf_name;
+pub use searching::Spot;
+pub use tracing::{trace_all, trace_phases};

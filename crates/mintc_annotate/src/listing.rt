@@ -19,16 +19,16 @@ use std::alloc::Global;
 
 /// A bit of a listed port: the place of the port in its list, and the bit.
 #[derive(Clone, Copy)]
-pub(crate) struct ListedBit {
-    pub(crate) place: usize,
-    pub(crate) bit: u32,
+pub struct ListedBit {
+    pub place: usize,
+    pub bit: u32,
 }
 
 /// The bits of the listed inputs and of the listed outputs.
 #[derive(Drop)]
-pub(crate) struct ListedBits {
-    pub(crate) inputs: Vec<ListedBit>,
-    pub(crate) outputs: Vec<ListedBit>,
+pub struct ListedBits {
+    pub inputs: Vec<ListedBit>,
+    pub outputs: Vec<ListedBit>,
 }
 
 /// Whether a port has this name and this direction.
@@ -131,7 +131,7 @@ fn bits_of(
 }
 
 /// The bits of the inputs and of the outputs that a clock lists.
-pub(crate) fn listed_bits(
+pub fn listed_bits(
     alloc: Global,
     hierarchy: &Hierarchy,
     clock: &Clock,

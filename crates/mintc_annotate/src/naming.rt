@@ -24,11 +24,7 @@ fn put_front(lines: &mut Lines, hierarchy: &Hierarchy, number: usize) -> Result<
 }
 
 /// What a leaf is called.
-pub(crate) fn leaf_name(
-    alloc: Global,
-    hierarchy: &Hierarchy,
-    number: usize,
-) -> Result<Name, OutOfMemory>
+pub fn leaf_name(alloc: Global, hierarchy: &Hierarchy, number: usize) -> Result<Name, OutOfMemory>
     requires names { HasNames hierarchy.now }
     requires leaf { number < length hierarchy.now.leaves }
     ensures { IfOk result (λ name. name ≡ dotted (leaf_path hierarchy.now number)) }

@@ -22,9 +22,9 @@ pub(crate) struct Drive {
 
 /// A bit, with the level that is looked for there.
 #[derive(Clone, Copy)]
-pub(crate) struct Spot {
-    pub(crate) bit: u32,
-    pub(crate) high: bool,
+pub struct Spot {
+    pub bit: u32,
+    pub high: bool,
 }
 
 /// A way back from a bit: where it leads, and whether the level turns on it.

@@ -109,7 +109,7 @@ fn trace(
 }
 
 /// The phases of all latches and flops, through the drivers of all bits.
-pub(crate) fn trace_all(
+pub fn trace_all(
     alloc: Global,
     hierarchy: &Hierarchy,
     cells: &Cells,

@@ -5,13 +5,14 @@ mod JointLaws
 mod LiftLaws
 mod TransferLaws
 mod JoinedLaws
-mod PlaceLaws
+pub mod SharedPlaceLaws
 mod ValuesLaws
 mod GreatestLaws
 mod StandingLaws
 mod LoopLaws
-mod MemberLaws
+pub mod SharedMemberLaws
 mod TextLaws
-mod ScheduleLaws
-mod MadeLaws
+pub mod SharedScheduleLaws
+pub mod SharedMadeLaws
+mod TurnLaws
 mod WorkedCorners

@@ -18,7 +18,7 @@ use Rattle.mintc_corners.specs.Joined.{StandsFor, corner_number}
 use Rattle.mintc_corners.specs.Joint.{AreCorners, side_by_side}
 use Rattle.mintc_corners.specs.Laws.{AreBeside, AreSystems}
 use Rattle.mintc_corners.proofs.LiftLaws.{clock_is, elements_before, fed_in_all, in_all, opening_is, opened_is, own_design, own_kept, reach_is, same_bounds, same_phases, setup_is}
-use Rattle.mintc_corners.proofs.PlaceLaws.{before_is}
+use Rattle.mintc_corners.proofs.SharedPlaceLaws.{before_is}
 
 module _ (t : Timing) (ts : List Timing) (are : AreCorners (t ∷ ts)) (systems : AreSystems (t ∷ ts)) (besides : AreBeside t ts) (few : length ts ≤ 3) (c : ℕ) (below : c < length (t ∷ ts)) where
   abbrev big : Timing

@@ -3,6 +3,6 @@ pub mod Joint
 pub mod Laws
 pub mod CornerText
 pub mod CornerOptimum
--- What only the proofs need:
 pub mod Lifted
 pub mod Joined
+pub mod Beginning

@@ -44,7 +44,7 @@ fn number_of(corner: usize, member: &Member) -> u32
 }
 
 /// The member for a joint link, by its number. A reach has a path with the greatest sum in its corner.
-#[tactic(auto, using(crate::proofs::PlaceLaws::joined_length))]
+#[tactic(auto, using(crate::proofs::SharedPlaceLaws::joined_length))]
 fn corner_member_of(
     alloc: Global,
     systems: &[System],

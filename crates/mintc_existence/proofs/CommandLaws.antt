@@ -2,6 +2,7 @@
 use Rattle.std.proofs.Common.{◌≡◌, ◌≢◌, ◌<◌, ◌≤◌, ◌++◌, ℕ, List, [], ◌∷◌, length, refl, inl, inr, ◌⊎◌, ⊎_elim, arith}
 use Rattle.std.proofs.lemmas.Bool.{cases_lt}
 use Rattle.std.proofs.lemmas.List.Elements.{All-nil, All-cons}
+use Rattle.mintc_text.specs.Limits.{AreLimits}
 use Rattle.mintc_text.specs.declared.limits.Most.{Most}
 use Rattle.mintc_text.specs.declared.refusals.Refusal.{Refusal}
 use Rattle.mintc_text.specs.declared.refusals.Refusal.TheVariants as refusal
@@ -9,19 +10,20 @@ use Rattle.mintc_text.specs.declared.refusals.Role.{Role}
 use Rattle.mintc_timing.specs.Design.{Timing}
 use Rattle.mintc_timing.specs.Order.{IsTiming}
 use Rattle.mintc_command_answers.specs.Answers.{IsDefined, of_contents, of_design, of_file, too_long}
-use Rattle.mintc_command_answers.specs.Commands.{job_roles, source_roles}
+use Rattle.mintc_command_answers.specs.Commands.{IsNumberInRange, job_roles, roles_of, source_roles}
 use Rattle.mintc_command_answers.specs.Contents.{sample_texts}
 use Rattle.mintc_command_answers.specs.Jobs.{IsFileRefused, IsJobAnswer, IsSummaryAnswer}
 use Rattle.mintc_command_answers.specs.Sources.{AreShort, Gives, IsLengthRefusal, IsSourceRefused, own_file}
-use Rattle.mintc_command_answers.specs.declared.command.Command.TheVariants.{OfDesign, Sample}
+use Rattle.mintc_command_answers.specs.declared.command.Command.{Command}
+use Rattle.mintc_command_answers.specs.declared.command.Command.TheVariants.{Corners, OfDesign, Sample}
 use Rattle.mintc_command_answers.specs.declared.command.Job.{Job}
 use Rattle.mintc_command_answers.specs.declared.command.Job.TheVariants.{Check, Optimise, Report, Safe, Slack, Verify}
 use Rattle.mintc_command_answers.specs.declared.command.Source.{Source}
-use Rattle.mintc_command_answers.specs.declared.command.Source.TheVariants.{Files, Table}
+use Rattle.mintc_command_answers.specs.declared.command.Source.TheVariants.{Files, Liberty, Table}
 use Rattle.mintc_command_answers.specs.declared.status.Status.{Status}
 use Rattle.mintc_command_answers.specs.declared.status.Status.TheVariants.{Done, Found, Refused, Usage, ReadFault, WriteFault, OutOfMemory}
-use Rattle.mintc_existence.specs.Answers.{ChecksHaveAnswers, HasAnswers, OptimaHaveAnswers, SystemsHaveSummaries, VerificationsHaveAnswers}
-use Rattle.mintc_existence.specs.Commands.{JobsAreAnswered, SamplesAreAnswered, SourcesAreAnswered, TablesAreAnswered, TablesHaveTimings}
+use Rattle.mintc_existence.specs.Answers.{ChecksHaveAnswers, HasAnswers, OptimaHaveAnswers, SafeOptimaHaveAnswers, SystemsHaveSummaries, VerificationsHaveAnswers}
+use Rattle.mintc_existence.specs.Commands.{CommandsAreAnswered, CornersAreAnswered, FilesHaveTimings, HasTimings, IsAnswered, JobsAreAnswered, SamplesAreAnswered, SourcesAreAnswered, TablesAreAnswered, TablesHaveTimings}
 
 -- Files are short, or one is the first that is too long.
 pub lengths : (most : Most) (roles : List Role) (files : List (List ℕ)) → length files ≡ length roles → AreShort most files ⊎ ((refused : Refusal) × IsLengthRefusal most roles files refused)
@@ -65,21 +67,21 @@ jobs_are_answered_lem most job source timings answers files many =
     (λ (long : (refused : Refusal) × IsLengthRefusal most (source_roles source ++ job_roles job) files refused). inl (long.0, too_long long.1))
     (lengths most (source_roles source ++ job_roles job) files many)
 
--- a job that isn't `safe` has answers
-all_answers : ChecksHaveAnswers → VerificationsHaveAnswers → OptimaHaveAnswers → (most : Most) (job : Job) → job ≢ Safe → HasAnswers most job
-all_answers checks verifications optima most Check other = λ t file limits kept. checks most t file limits kept.extremes
-all_answers checks verifications optima most Verify other = λ t file limits kept. verifications most t file
-all_answers checks verifications optima most Optimise other = (optima most).0
-all_answers checks verifications optima most Report other = (optima most).1
-all_answers checks verifications optima most Slack other = (optima most).2
-all_answers checks verifications optima most Safe other = absurd (other refl)
+-- each job has answers
+all_answers : ChecksHaveAnswers → VerificationsHaveAnswers → OptimaHaveAnswers → SafeOptimaHaveAnswers → (most : Most) (job : Job) → HasAnswers most job
+all_answers checks verifications optima safes most Check = λ t file limits kept. checks most t file limits kept.extremes
+all_answers checks verifications optima safes most Verify = λ t file limits kept. verifications most t file
+all_answers checks verifications optima safes most Optimise = (optima most).0
+all_answers checks verifications optima safes most Report = (optima most).1
+all_answers checks verifications optima safes most Slack = (optima most).2
+all_answers checks verifications optima safes most Safe = safes most
 
-pub sources_are_answered_lem : ChecksHaveAnswers → VerificationsHaveAnswers → OptimaHaveAnswers → SourcesAreAnswered
-sources_are_answered_lem checks verifications optima most source timings job other files many =
-    jobs_are_answered_lem most job source timings (all_answers checks verifications optima most job other) files many
+pub sources_are_answered_lem : ChecksHaveAnswers → VerificationsHaveAnswers → OptimaHaveAnswers → SafeOptimaHaveAnswers → SourcesAreAnswered
+sources_are_answered_lem checks verifications optima safes most source timings job files many =
+    jobs_are_answered_lem most job source timings (all_answers checks verifications optima safes most job) files many
 
 pub tables_are_answered_lem : TablesHaveTimings → SourcesAreAnswered → TablesAreAnswered
-tables_are_answered_lem timings answered most limits job other files many = answered most Table (λ f short. timings most limits f) job other files many
+tables_are_answered_lem timings answered most limits job files many = answered most Table (λ f short. timings most limits f) job files many
 
 -- The summary of a sample is the command's.
 summarised : (most : Most) (number : ℕ) (files : List (List ℕ)) (t : Timing) (status : Status) (text : List ℕ) → AreShort most (sample_texts number) → Gives most Files (sample_texts number) t →
@@ -104,3 +106,18 @@ samples_are_answered_lem summaries most timings number files =
     (timings (sample_texts number) short))
     (λ (long : (refused : Refusal) × IsLengthRefusal most (source_roles Files) (sample_texts number) refused). inl (long.0, too_long long.1))
     (lengths most (source_roles Files) (sample_texts number) refl)
+
+-- each command, by what it is
+module _ (tables : TablesHaveTimings) (timings : FilesHaveTimings) (answered : SourcesAreAnswered) (samples : SamplesAreAnswered) (corners : CornersAreAnswered) (most : Most) (limits : AreLimits most) where
+  of_source : (source : Source) → HasTimings most source
+  of_source Table = λ f short. tables most limits f
+  of_source Files = (timings most limits).0
+  of_source Liberty = (timings most limits).1
+
+  each : (command : Command) → IsNumberInRange command → (files : List (List ℕ)) → length files ≡ length (roles_of command) → IsAnswered most command files
+  each (OfDesign job source) range files many = answered most source (of_source source) job files many
+  each (Sample number) range files many = samples most (of_source Files) number files
+  each (Corners count) range files many = corners most limits (of_source Files) count files many range.0 range.1
+
+pub commands_are_answered_lem : TablesHaveTimings → FilesHaveTimings → SourcesAreAnswered → SamplesAreAnswered → CornersAreAnswered → CommandsAreAnswered
+commands_are_answered_lem tables timings answered samples corners most limits command range files many = each tables timings answered samples corners most limits command range files many

@@ -18,6 +18,7 @@ use Rattle.mintc_corners.specs.declared.certificate.CornerCertificate.TheVariant
 use Rattle.mintc_corners.specs.CornerOptimum.{IsOptimumOf}
 use Rattle.mintc_corners.specs.CornerText.{corner_lines}
 use Rattle.mintc_corners.specs.Laws.{AreSystems}
+use Rattle.mintc_corners_laws.specs.Existence.{JointOptimaExist}
 use Rattle.mintc_command_answers.specs.Answers.{IsDefined, of_contents, too_long}
 use Rattle.mintc_command_answers.specs.Commands.{roles_of}
 use Rattle.mintc_command_answers.specs.Corners.{AreGiven, IsFirstRefused, corner_status, corners_of, elements_together, files_with, of_corner, of_elements}
@@ -25,7 +26,7 @@ use Rattle.mintc_command_answers.specs.Sources.{AreShort, Gives, IsLengthRefusal
 use Rattle.mintc_command_answers.specs.declared.command.Command.TheVariants.{Corners}
 use Rattle.mintc_command_answers.specs.declared.command.Source.TheVariants.{Files}
 use Rattle.mintc_answer_laws.proofs.SharedCornerLaws.{all_elements, are_corners, as_many}
-use Rattle.mintc_existence.specs.Commands.{CornersAreAnswered, HasTimings, HaveJointOptima, IsAnswered}
+use Rattle.mintc_existence.specs.Commands.{CornersAreAnswered, HasTimings, IsAnswered}
 use Rattle.mintc_existence.proofs.CommandLaws.{lengths}
 
 module _ (most : Most) where
@@ -70,7 +71,7 @@ module _ (most : Most) where
   answered count files ts (certificate.Least s d chain) short given few optimum = (short, (ts, given, few, (certificate.Least s d chain, optimum, refl, refl)))
   answered count files ts (certificate.Never chain) short given few optimum = (short, (ts, given, few, (certificate.Never chain, optimum, refl, refl)))
 
-  on_systems : CornersDifferInNumbers → HaveJointOptima → AreLimits most → (count : ℕ) (files : List (List ℕ)) → length files ≡ length (roles_of (Corners count)) → 2 ≤ count → count ≤ 4 → AreShort most files →
+  on_systems : CornersDifferInNumbers → JointOptimaExist → AreLimits most → (count : ℕ) (files : List (List ℕ)) → length files ≡ length (roles_of (Corners count)) → 2 ≤ count → count ≤ 4 → AreShort most files →
       (ts : List Timing) → AreGiven most (corners_of files) ts → AreSystems ts → IsAnswered most (Corners count) files
   on_systems numbers optima limits count files many low high short ts given systems =
       ⊎_elim
@@ -82,7 +83,7 @@ module _ (most : Most) where
       inr (corner_status found.0, text_of (corner_lines found.0), answered count files ts found.0 short given few found.1))
       (cases_lt most.elements (elements_together ts))
 
-pub corners_are_answered_lem : CornersDifferInNumbers → CornersAreAnswered
+pub corners_are_answered_lem : CornersDifferInNumbers → JointOptimaExist → CornersAreAnswered
 corners_are_answered_lem numbers optima most limits timings count files many low high =
     ⊎_elim
     (λ (short : AreShort most files).

@@ -10,14 +10,18 @@ use Rattle.mintc_certificate.specs.declared.certificate.Certificate.{Certificate
 use Rattle.mintc_certificate.specs.declared.certificate.Certificate.TheVariants as certificate
 use Rattle.mintc_certificate.specs.Written.{lines_of}
 use Rattle.mintc_optimise_laws.specs.Existence.{IsBest, OptimaExist}
+use Rattle.mintc_safe.specs.declared.certificate.SafeCertificate.{SafeCertificate}
+use Rattle.mintc_safe.specs.declared.certificate.SafeCertificate.TheVariants as kept
+use Rattle.mintc_safe.specs.SafeText.{safe_lines}
+use Rattle.mintc_safe_laws.specs.Existence.{SafeOptimaExist}
 use Rattle.mintc_slack.specs.declared.finding.Slacks.{Slacks}
 use Rattle.mintc_slack.specs.declared.finding.Slacks.TheVariants as slacks
 use Rattle.mintc_slack.specs.SlackText.{slack_lines}
 use Rattle.mintc_slack_laws.specs.Existence.{SlacksExist}
-use Rattle.mintc_command_answers.specs.Jobs.{IsOptimum, certificate_status, slack_status}
+use Rattle.mintc_command_answers.specs.Jobs.{IsOptimum, certificate_status, safe_status, slack_status}
 use Rattle.mintc_command_answers.specs.declared.command.Job.TheVariants.{Optimise, Report, Slack}
 use Rattle.mintc_command_answers.specs.declared.status.Status.TheVariants.{Refused}
-use Rattle.mintc_existence.specs.Answers.{HasAnswers, OptimaHaveAnswers, SystemsHaveSummaries}
+use Rattle.mintc_existence.specs.Answers.{HasAnswers, OptimaHaveAnswers, SafeOptimaHaveAnswers, SystemsHaveSummaries}
 use Rattle.mintc_existence.proofs.TextLaws.{reports_have_texts_lem, summaries_have_texts_lem}
 
 optimum_of : (t : Timing) (c : Certificate) → IsBest t c → IsOptimum t c
@@ -59,3 +63,12 @@ systems_have_summaries_lem exist number t limits kept =
     let best = exist t limits kept in
     let text = summaries_have_texts_lem number t best.0 best.1.in_range in
     (certificate_status best.0, text.0, certificate_answers best.0, (best.0, optimum_of t best.0 best.1, refl, text.1))
+
+safe_answers : (c : SafeCertificate) → safe_status c ≢ Refused
+safe_answers (kept.Least s d chain) = λ e. cc
+safe_answers (kept.Never chain) = λ e. cc
+
+pub safe_optima_have_answers_lem : SafeOptimaExist → SafeOptimaHaveAnswers
+safe_optima_have_answers_lem exist most t file limits system =
+    let found = exist t limits system in
+    inr (safe_status found.0, text_of (safe_lines found.0), safe_answers found.0, (found.0, found.1, refl, refl))

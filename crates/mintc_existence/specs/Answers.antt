@@ -18,7 +18,8 @@ use Rattle.mintc_report.specs.Reports.{IsReportText}
 use Rattle.mintc_report.specs.Summaries.{IsSummaryText}
 use Rattle.mintc_command_answers.specs.Jobs.{IsFileRefused, IsJobAnswer, IsSummaryAnswer}
 use Rattle.mintc_command_answers.specs.declared.command.Job.{Job}
-use Rattle.mintc_command_answers.specs.declared.command.Job.TheVariants.{Check, Optimise, Report, Slack, Verify}
+use Rattle.mintc_command_answers.specs.declared.command.Job.TheVariants.{Check, Optimise, Report, Safe, Slack}
+use Rattle.mintc_command_answers.specs.declared.command.Job.TheVariants.{Verify}
 use Rattle.mintc_command_answers.specs.declared.status.Status.{Status}
 use Rattle.mintc_command_answers.specs.declared.status.Status.TheVariants.{Refused}
 
@@ -78,3 +79,7 @@ SystemsHaveSummaries = (number : ℕ) (t : Timing) → IsDesign t.flat → IsTim
 -- So `optimise`, `report` and `slack` have an answer on each system, or it has too many elements for `slack`.
 abbrev pub OptimaHaveAnswers : Type 0
 OptimaHaveAnswers = (most : Most) → HasAnswers most Optimise × HasAnswers most Report × HasAnswers most Slack
+
+-- So has `safe`, on each system.
+abbrev pub SafeOptimaHaveAnswers : Type 0
+SafeOptimaHaveAnswers = (most : Most) → HasAnswers most Safe

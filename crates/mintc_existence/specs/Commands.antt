@@ -1,23 +1,16 @@
 -- "One or the other": the bytes of a command's files have a first refusal or a defined answer.
-use Rattle.std.specs.Prelude.{◌≡◌, ◌≢◌, ◌≤◌, ℕ, List, length, flat_map, ◌++◌, ◌⊎◌}
+use Rattle.std.specs.Prelude.{◌≡◌, ◌≤◌, ℕ, List, length, ◌++◌, ◌⊎◌}
 use Rattle.mintc_text.specs.Limits.{AreLimits}
 use Rattle.mintc_text.specs.declared.limits.Most.{Most}
-use Rattle.mintc_text.specs.declared.limits.TheConstants.{MOST_ELEMENTS}
 use Rattle.mintc_text.specs.declared.refusals.Refusal.{Refusal}
-use Rattle.mintc_timing.specs.Design.{Design, Timing}
-use Rattle.mintc_timing.specs.Limits.{HasParts}
+use Rattle.mintc_timing.specs.Design.{Timing}
 use Rattle.mintc_timing.specs.Order.{IsTiming}
-use Rattle.mintc_corners.specs.declared.certificate.CornerCertificate.{CornerCertificate}
-use Rattle.mintc_corners.specs.CornerOptimum.{IsOptimumOf}
-use Rattle.mintc_corners.specs.Joint.{AreCorners}
-use Rattle.mintc_corners.specs.Laws.{AreSystems}
 use Rattle.mintc_command_answers.specs.Answers.{IsDefined, IsFirstRefusal}
-use Rattle.mintc_command_answers.specs.Commands.{job_roles, roles_of, source_roles}
-use Rattle.mintc_command_answers.specs.Sources.{AreShort, Describes, Gives, IsSourceRefused}
+use Rattle.mintc_command_answers.specs.Commands.{IsNumberInRange, job_roles, roles_of, source_roles}
+use Rattle.mintc_command_answers.specs.Sources.{AreShort, Gives, IsSourceRefused}
 use Rattle.mintc_command_answers.specs.declared.command.Command.{Command}
 use Rattle.mintc_command_answers.specs.declared.command.Command.TheVariants.{Corners, OfDesign, Sample}
 use Rattle.mintc_command_answers.specs.declared.command.Job.{Job}
-use Rattle.mintc_command_answers.specs.declared.command.Job.TheVariants.{Safe}
 use Rattle.mintc_command_answers.specs.declared.command.Source.{Source}
 use Rattle.mintc_command_answers.specs.declared.command.Source.TheVariants.{Files, Liberty, Table}
 use Rattle.mintc_command_answers.specs.declared.status.Status.{Status}
@@ -36,15 +29,9 @@ HasTimings most source = (files : List (List ℕ)) → AreShort most files → H
 abbrev pub TablesHaveTimings : Type 0
 TablesHaveTimings = (most : Most) → AreLimits most → (files : List (List ℕ)) → HasTiming most Table files
 
--- Each design that files of a source stand for, none of them too long, has its parts in their ranges.
-abbrev pub HasSoundDesigns : Most → Source → Type 0
-HasSoundDesigns most source = (files : List (List ℕ)) (design : Design) → AreShort most files →
-    Describes most source files design → HasParts design
-
--- Where that is so, a netlist, delays, a clock and cells of either form give a system, or are refused.
+-- A netlist, delays, a clock and cells of either form give a system, or are refused.
 abbrev pub FilesHaveTimings : Type 0
-FilesHaveTimings = (most : Most) → AreLimits most → (HasSoundDesigns most Files → HasTimings most Files)
-    × (HasSoundDesigns most Liberty → HasTimings most Liberty)
+FilesHaveTimings = (most : Most) → AreLimits most → HasTimings most Files × HasTimings most Liberty
 
 -- The bytes of the command's files have a first refusal or a defined answer.
 abbrev pub IsAnswered : Most → Command → List (List ℕ) → Type 0
@@ -57,9 +44,9 @@ JobsAreAnswered = (most : Most) (job : Job) (source : Source) → HasTimings mos
     (files : List (List ℕ)) → length files ≡ length (source_roles source ++ job_roles job) →
     IsAnswered most (OfDesign job source) files
 
--- Each job but `safe` has answers. So it is answered where its source has systems,
+-- Each job has answers. So it is answered where its source has systems,
 abbrev pub SourcesAreAnswered : Type 0
-SourcesAreAnswered = (most : Most) (source : Source) → HasTimings most source → (job : Job) → job ≢ Safe →
+SourcesAreAnswered = (most : Most) (source : Source) → HasTimings most source → (job : Job) →
     (files : List (List ℕ)) → length files ≡ length (source_roles source ++ job_roles job) →
     IsAnswered most (OfDesign job source) files
 
@@ -68,19 +55,18 @@ abbrev pub SamplesAreAnswered : Type 0
 SamplesAreAnswered = (most : Most) → HasTimings most Files → (number : ℕ) (files : List (List ℕ)) →
     IsAnswered most (Sample number) files
 
--- Each job but `safe` of a table is answered.
+-- Each job of a table is answered.
 abbrev pub TablesAreAnswered : Type 0
-TablesAreAnswered = (most : Most) → AreLimits most → (job : Job) → job ≢ Safe → (files : List (List ℕ)) →
+TablesAreAnswered = (most : Most) → AreLimits most → (job : Job) → (files : List (List ℕ)) →
     length files ≡ length (source_roles Table ++ job_roles job) → IsAnswered most (OfDesign job Table) files
 
--- A few systems that differ in numbers alone have a joint optimum.
-abbrev pub HaveJointOptima : Type 0
-HaveJointOptima = (systems : List Timing) → length systems ≤ 4 → AreCorners systems →
-    length (flat_map (λ t. t.flat.elements) systems) ≤ MOST_ELEMENTS → AreSystems systems →
-    (c : CornerCertificate) × IsOptimumOf systems c
-
--- Where that is so, `corners` is answered wherever files have systems, of as many files as it names.
+-- `corners` is answered wherever files have systems, of as many files as it names.
 abbrev pub CornersAreAnswered : Type 0
-CornersAreAnswered = HaveJointOptima → (most : Most) → AreLimits most → HasTimings most Files → (count : ℕ)
+CornersAreAnswered = (most : Most) → AreLimits most → HasTimings most Files → (count : ℕ)
     (files : List (List ℕ)) → length files ≡ length (roles_of (Corners count)) → 2 ≤ count → count ≤ 4 →
     IsAnswered most (Corners count) files
+
+-- In a run the bytes of each command's files, as many as it names, have a first refusal or a defined answer.
+abbrev pub CommandsAreAnswered : Type 0
+CommandsAreAnswered = (most : Most) → AreLimits most → (command : Command) → IsNumberInRange command →
+    (files : List (List ℕ)) → length files ≡ length (roles_of command) → IsAnswered most command files

@@ -1,18 +1,22 @@
 //! What the definitions say of one another: each law is the contract of a function that only calls laws.
 ghost use Rattle.mintc_existence.specs.Answers.{CertificatesHaveVerdicts, ChecksHaveAnswers, FailsHaveTexts};
 ghost use Rattle.mintc_existence.specs.Answers.{FractionsHaveLowestTerms, OptimaHaveAnswers, PassesHaveTexts};
-ghost use Rattle.mintc_existence.specs.Answers.{ReportsHaveTexts, SummariesHaveTexts, SystemsHaveSummaries};
-ghost use Rattle.mintc_existence.specs.Answers.{VerificationsHaveAnswers};
-ghost use Rattle.mintc_existence.specs.Commands.{CornersAreAnswered, FilesHaveTimings, JobsAreAnswered};
+ghost use Rattle.mintc_existence.specs.Answers.{ReportsHaveTexts, SafeOptimaHaveAnswers, SummariesHaveTexts};
+ghost use Rattle.mintc_existence.specs.Answers.{SystemsHaveSummaries, VerificationsHaveAnswers};
+ghost use Rattle.mintc_existence.specs.Commands.{CommandsAreAnswered, CornersAreAnswered, FilesHaveTimings};
+ghost use Rattle.mintc_existence.specs.Commands.{JobsAreAnswered};
 ghost use Rattle.mintc_existence.specs.Commands.{SamplesAreAnswered, SourcesAreAnswered, TablesAreAnswered};
 ghost use Rattle.mintc_existence.specs.Commands.{TablesHaveTimings};
 
 use mintc_build::{
     corners_differ_in_numbers, designs_have_systems_or_refusals, files_have_designs_or_refusals,
 };
+use mintc_build_laws::designs_are_sound;
 use mintc_certificate::texts_have_certificates_or_refusals;
+use mintc_corners_laws::joint_optima_exist;
 use mintc_departure_laws::schedules_have_violations;
 use mintc_optimise_laws::optima_exist;
+use mintc_safe_laws::safe_optima_exist;
 use mintc_slack_laws::slacks_exist;
 use mintc_timing::systems_are_accepted;
 use mintc_timing_text::{
@@ -89,13 +93,21 @@ pub fn optima_have_answers()
     slacks_exist();
 }
 
-/// Four files whose designs have their parts in range give a system, or are refused.
+/// `safe` has an answer on each system.
+pub fn safe_optima_have_answers()
+    ensures { SafeOptimaHaveAnswers }
+{
+    safe_optima_exist();
+}
+
+/// Four files give a system, or are refused.
 pub fn files_have_timings()
     ensures { FilesHaveTimings }
 {
     designs_have_systems_or_refusals();
     systems_are_accepted();
     files_have_designs_or_refusals();
+    designs_are_sound();
 }
 
 /// A command of a job on one design is answered or refused, where its source has systems and its job has answers.
@@ -103,13 +115,14 @@ pub fn jobs_are_answered()
     ensures { JobsAreAnswered }
 {}
 
-/// Each job but `safe` is answered or refused, where its source has systems.
+/// Each job is answered or refused, where its source has systems.
 pub fn sources_are_answered()
     ensures { SourcesAreAnswered }
 {
     checks_have_answers();
     verifications_have_answers();
     optima_have_answers();
+    safe_optima_have_answers();
 }
 
 /// Each sample is answered or refused, where files have systems.
@@ -119,7 +132,7 @@ pub fn samples_are_answered()
     systems_have_summaries();
 }
 
-/// Each job but `safe` of a table is answered or refused.
+/// Each job of a table is answered or refused.
 pub fn tables_are_answered()
     ensures { TablesAreAnswered }
 {
@@ -127,9 +140,21 @@ pub fn tables_are_answered()
     sources_are_answered();
 }
 
-/// `corners` is answered or refused, where files have systems and a few systems have a joint optimum.
+/// `corners` is answered or refused, where files have systems.
 pub fn corners_are_answered()
     ensures { CornersAreAnswered }
 {
     corners_differ_in_numbers();
+    joint_optima_exist();
+}
+
+/// The bytes of each command's files have a first refusal or a defined answer.
+pub fn commands_are_answered()
+    ensures { CommandsAreAnswered }
+{
+    tables_have_timings();
+    files_have_timings();
+    sources_are_answered();
+    samples_are_answered();
+    corners_are_answered();
 }

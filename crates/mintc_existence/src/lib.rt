@@ -8,9 +8,9 @@
 mod laws;
 
 pub use laws::{
-    certificates_have_verdicts, checks_have_answers, corners_are_answered, fails_have_texts,
-    files_have_timings, fractions_have_lowest_terms, jobs_are_answered, optima_have_answers,
-    passes_have_texts, reports_have_texts, samples_are_answered, sources_are_answered,
-    summaries_have_texts, systems_have_summaries, tables_are_answered, tables_have_timings,
-    verifications_have_answers,
+    certificates_have_verdicts, checks_have_answers, commands_are_answered, corners_are_answered,
+    fails_have_texts, files_have_timings, fractions_have_lowest_terms, jobs_are_answered,
+    optima_have_answers, passes_have_texts, reports_have_texts, safe_optima_have_answers,
+    samples_are_answered, sources_are_answered, summaries_have_texts, systems_have_summaries,
+    tables_are_answered, tables_have_timings, verifications_have_answers,
 };

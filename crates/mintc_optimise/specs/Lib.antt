@@ -3,3 +3,4 @@ pub mod Optimum
 pub mod Benches
 pub mod Making
 pub mod Bounded
+pub mod Beginning

@@ -17,9 +17,11 @@ mod chain;
 mod laws;
 mod optimum;
 mod times;
+mod turning;
 
 pub use bench::Bench;
 pub use chain::{member_of, members};
 pub use laws::{never_needs_a_bound, unbounded_chains_take_nothing, unbounded_has_right};
 pub use optimum::optimise;
 pub use times::{departures, schedule};
+pub use turning::{beginning, turned};

@@ -8,12 +8,14 @@ ghost use Rattle.mintc_certificate.specs.Optimal.{IsOptimal};
 ghost use Rattle.mintc_certificate.specs.Ranges.{IsCertificateInRange};
 ghost use Rattle.mintc_certificate.specs.Valid.{IsValid, chain_of};
 ghost use Rattle.mintc_ratio.specs.Searched.{HasSearched};
+ghost use Rattle.mintc_optimise.specs.Beginning.{HasBeginning};
 ghost use Rattle.mintc_optimise.specs.Bounded.{CertifiesNeverOnlyWithBounds};
 ghost use Rattle.mintc_optimise.specs.Optimum.{HasEarliest, HasSimple};
 
 use crate::Bench;
 use crate::chain::members;
 use crate::times::{departures, schedule};
+use crate::turning::{beginning, turned};
 use mintc_certificate::Certificate;
 use mintc_constraints::{LinkList, Room};
 use mintc_graph_walks::Steps;
@@ -37,12 +39,16 @@ fn certificate(
     ensures optimal { IfOk result (IsOptimal system.now) }
     ensures earliest { IfOk result (HasEarliest system.now) }
     ensures simple { IfOk result (HasSimple system.now) }
+    ensures begins { IfOk result (HasBeginning system.now) }
     ensures bounded { IfOk result (CertifiesNeverOnlyWithBounds system.now.flat) }
     ensures in_range { IfOk result IsCertificateInRange }
     ensures short { IfOk result (λ certificate. length (chain_of certificate) ≤ element_count system.now.flat + 17) }
 {
     let _flat = system.flat();
-    let chain = members(alloc, system, list.items(), room.chain())?;
+    let numbers = room.chain();
+    let first = beginning(alloc, list, numbers)?;
+    let ring = members(alloc, system, list.items(), numbers)?;
+    let chain = turned(ring, first);
     match outcome {
         Outcome::Least { cycle } => Ok(Certificate::Least {
             schedule: schedule(system, &cycle, room.values()),
@@ -56,7 +62,8 @@ fn certificate(
 /// The least cycle time of a system with its certificate: a right schedule of that cycle with its departures and a
 /// chain that forbids every smaller cycle time; or, which takes a bound, a chain that forbids all. Its starts, its
 /// ends and the moments at which latches depart are the least that any solution has. The chain enters no node
-/// twice, and each of its reaches has a path with the greatest delay of its pair. Which chain is given is free.
+/// twice, begins with that of its members whose link comes first in the list of links, and each of its reaches has a
+/// path with the greatest delay of its pair. Which chain is given is free.
 pub fn optimise<L: Ledger>(
     alloc: Global,
     system: &System,
@@ -66,6 +73,7 @@ pub fn optimise<L: Ledger>(
     ensures optimal { IfOk result (IsOptimal system.now) }
     ensures earliest { IfOk result (HasEarliest system.now) }
     ensures simple { IfOk result (HasSimple system.now) }
+    ensures begins { IfOk result (HasBeginning system.now) }
     ensures bounded { IfOk result (CertifiesNeverOnlyWithBounds system.now.flat) }
     ensures in_range { IfOk result IsCertificateInRange }
     ensures short { IfOk result (λ certificate. length (chain_of certificate) ≤ element_count system.now.flat + 17) }

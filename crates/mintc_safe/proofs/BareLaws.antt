@@ -3,7 +3,8 @@ use Rattle.std.proofs.Common.{◌≡◌, ◌<◌, ℕ, ℤ, pos, ◌+ℤ◌, Lis
 use Rattle.std.proofs.lemmas.List.{length-map, get_or-map}
 use Rattle.mintc_timing.specs.declared.link.Link.{Link}
 use Rattle.mintc_graph.specs.Rings.{IsClosed, Joins, total}
-use Rattle.mintc_timing.specs.Links.{IsStuck, IsTight}
+use Rattle.mintc_timing.specs.Links.{IsStuck, IsTight, link_at, no_link}
+use Rattle.mintc_optimise.specs.Beginning.{AskTheSame, BeginsFirst}
 use Rattle.mintc_optimise.proofs.SharedCertificateLaws.{IsRound}
 use Rattle.mintc_safe.specs.SafeOptimum.{bare}
 
@@ -55,3 +56,26 @@ module _ (ks ls : List Link) (same : map bare ks ≡ map bare ls) where
         some = omega arith;
         most = omega arith;
       }
+
+  bare_at : (i : ℕ) (d e : Link) → i < length ks → bare (get_or ks i d) ≡ bare (get_or ls i e)
+  bare_at i d e h =
+      let count = same_length in
+      sym (get_or-map bare ks i d d h) ∙ ap (λ (x : List Link). get_or x i d) same ∙ get_or-map bare ls i e d (omega arith)
+
+  same_asked : (k x y : Link) → bare x ≡ bare y → AskTheSame k x → AskTheSame k y
+  same_asked k x y is h =
+      (h.0 ∙ ap (λ (z : Link). z.from) is, h.1 ∙ ap (λ (z : Link). z.to) is, h.2 ∙ ap (λ (z : Link). z.delay) is, h.3 ∙ ap (λ (z : Link). z.cycles) is)
+
+  pub same_beginning : (links : List Link) → BeginsFirst links ls → BeginsFirst links ks
+  same_beginning links h =
+      let first = h.1 in
+      let count = same_length in
+      let inside : 0 < length ks = omega (arith, count, first.inside) in (
+        h.0,
+        record {
+          inside = inside;
+          listed = first.listed;
+          same = same_asked (link_at links h.0) (link_at ls 0) (link_at ks 0) (sym (bare_at 0 no_link no_link inside)) first.same;
+          none_before = λ e less i d there asked. first.none_before e less i d (omega (arith, count, there)) (same_asked (link_at links e) (get_or ks i d) (get_or ls i d) (bare_at i d d there) asked);
+        },
+      )

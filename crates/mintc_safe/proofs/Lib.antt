@@ -2,7 +2,8 @@ mod HoldLaws
 mod SafeLaws
 mod PassLaws
 mod Turns
-mod StandingLaws
+pub mod SharedStandingLaws
 mod BareLaws
-mod CertificateLaws
+pub mod SharedCertificateLaws
+mod TurnedLaws
 mod WorkedSafe

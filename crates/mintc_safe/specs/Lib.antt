@@ -3,3 +3,4 @@ pub mod Hold
 pub mod Laws
 pub mod SafeText
 pub mod SafeOptimum
+pub mod Beginning

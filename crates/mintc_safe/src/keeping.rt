@@ -6,6 +6,7 @@ ghost use Rattle.mintc_timing.specs.Links.{node_count};
 ghost use Rattle.mintc_timing.specs.Order.{IsTiming};
 ghost use Rattle.mintc_constraints.specs.Ordinary.{constraints_of};
 ghost use Rattle.mintc_ratio.specs.Searched.{HasSearched};
+ghost use Rattle.mintc_safe.specs.Beginning.{HasSafeBeginning};
 ghost use Rattle.mintc_safe.specs.Hold.{safe_links_of};
 ghost use Rattle.mintc_safe.specs.SafeOptimum.{IsSafeOptimum};
 
@@ -14,7 +15,7 @@ use crate::chain::members;
 use crate::holds::safe_links;
 use mintc_constraints::{LinkList, Room};
 use mintc_graph_walks::Steps;
-use mintc_optimise::{departures, schedule};
+use mintc_optimise::{beginning, departures, schedule, turned};
 use mintc_ratio::{Outcome, search};
 use mintc_text::OutOfMemory;
 use mintc_timing::System;
@@ -33,9 +34,13 @@ fn certificate(
     requires searched { HasSearched list.now room.now outcome }
     requires design { IsDesign system.now.flat }
     requires kept { IsTiming system.now.flat system.now.order system.now.pairs }
-    ensures { IfOk result (IsSafeOptimum system.now) }
+    ensures optimum { IfOk result (IsSafeOptimum system.now) }
+    ensures begins { IfOk result (HasSafeBeginning system.now) }
 {
-    let chain = members(alloc, system, list.items(), room.chain())?;
+    let numbers = room.chain();
+    let first = beginning(alloc, list, numbers)?;
+    let ring = members(alloc, system, list.items(), numbers)?;
+    let chain = turned(ring, first);
     match outcome {
         Outcome::Least { cycle } => Ok(SafeCertificate::Least {
             schedule: schedule(system, &cycle, room.values()),
@@ -49,14 +54,15 @@ fn certificate(
 /// The least cycle time of a system that keeps every hold with each output as early as it can be, with its
 /// certificate: a right schedule of that cycle with its departures and a chain of safe links that forbids every
 /// smaller cycle time, or a chain that forbids all. Each such schedule passes. Its starts, its ends and the moments
-/// at which latches depart are the least that any solution of the safe links has. The chain enters no node twice.
-/// Which chain is given is free.
+/// at which latches depart are the least that any solution of the safe links has. The chain enters no node twice, and
+/// begins with that of its members whose link comes first in the list of safe links. Which chain is given is free.
 pub fn safe<L: Ledger>(
     alloc: Global,
     system: &System,
     steps: &mut Steps<L>,
 ) -> Result<SafeCertificate, OutOfMemory>
     ensures optimum { IfOk result (IsSafeOptimum system.now) }
+    ensures begins { IfOk result (HasSafeBeginning system.now) }
     ensures cost { steps.new ≤ steps.old + most_tests (node_count system.now.flat) * (node_count system.now.flat + 1) }
 {
     let list = safe_links(alloc, system)?;

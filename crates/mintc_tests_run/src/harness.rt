@@ -147,8 +147,6 @@ pub(crate) const NO_ELEMENT: Wanted<'static> = (
 /// The ends of a certificate whose phase takes no time.
 pub(crate) const NO_TIME: &[&str] = &[
     "chain 2\nstart 1\ncycle 1\nend\n",
-    "chain 2\ncycle 1\nstart 1\nend\n",
-    "chain 2\nwidth 1\nspan 1\nend\n",
     "chain 2\nspan 1\nwidth 1\nend\n",
 ];
 

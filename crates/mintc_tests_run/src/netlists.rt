@@ -33,10 +33,7 @@ const OF_UNCONNECTED: Wanted<'static> = (
     Status::Done,
     "certificate 2\nleast\nden 1\ncycle 10\nphases 1\nphase 0 10\ndepartures 1\ndeparture 0\n",
     &[
-        "chain 3\nopen 0\nsetup 0\nspan 1\nend\n",
-        "chain 3\nsetup 0\nspan 1\nopen 0\nend\n",
         "chain 3\nspan 1\nopen 0\nsetup 0\nend\n",
-        "chain 2\nopened 0\nspan 1\nend\n",
         "chain 2\nspan 1\nopened 0\nend\n",
     ],
 );

@@ -51,12 +51,7 @@ const TWO: Row = Row {
     ],
     answer: "corners 1\nleast\nden 1\ncycle 130\nphases 2\nphase 0 0\nphase 60 0\ncorners 2\ndepartures 2\n\
         departure 0\ndeparture 0\ndepartures 2\ndeparture 0\ndeparture 0\n",
-    chains: &[
-        "chain 4\nreach 1 0 1 1 0\nsetup 1 1\nreach 2 1 0 1 1\nsetup 2 0\nend\n",
-        "chain 4\nsetup 1 1\nreach 2 1 0 1 1\nsetup 2 0\nreach 1 0 1 1 0\nend\n",
-        "chain 4\nreach 2 1 0 1 1\nsetup 2 0\nreach 1 0 1 1 0\nsetup 1 1\nend\n",
-        "chain 4\nsetup 2 0\nreach 1 0 1 1 0\nsetup 1 1\nreach 2 1 0 1 1\nend\n",
-    ],
+    chains: &["chain 4\nreach 1 0 1 1 0\nsetup 1 1\nreach 2 1 0 1 1\nsetup 2 0\nend\n"],
 };
 
 /// Two latches that feed each other, in three corners: the third one's loop is the longest, and each has departures
@@ -74,10 +69,7 @@ const THREE: Row = Row {
     answer: "corners 1\nleast\nden 1\ncycle 101\nphases 2\nphase 0 5\nphase 5 60\ncorners 3\ndepartures 2\n\
         departure 0\ndeparture 55\ndepartures 2\ndeparture 0\ndeparture 25\ndepartures 2\ndeparture 0\n\
         departure 40\n",
-    chains: &[
-        "chain 2\nreach 3 1 0 1 1\nreach 3 0 1 1 0\nend\n",
-        "chain 2\nreach 3 0 1 1 0\nreach 3 1 0 1 1\nend\n",
-    ],
+    chains: &["chain 2\nreach 3 0 1 1 0\nreach 3 1 0 1 1\nend\n"],
 };
 
 /// Three flops in a ring: each of three corners asks for the most of one path, and the fourth for a width.
@@ -103,11 +95,6 @@ const FOUR: Row = Row {
         departure 0\ndeparture 0\n",
     chains: &[
         "chain 6\nreach 1 0 1 1 0\nsetup 1 1\nreach 2 1 2 1 1\nsetup 2 2\nreach 3 2 0 1 2\nsetup 3 0\nend\n",
-        "chain 6\nsetup 1 1\nreach 2 1 2 1 1\nsetup 2 2\nreach 3 2 0 1 2\nsetup 3 0\nreach 1 0 1 1 0\nend\n",
-        "chain 6\nreach 2 1 2 1 1\nsetup 2 2\nreach 3 2 0 1 2\nsetup 3 0\nreach 1 0 1 1 0\nsetup 1 1\nend\n",
-        "chain 6\nsetup 2 2\nreach 3 2 0 1 2\nsetup 3 0\nreach 1 0 1 1 0\nsetup 1 1\nreach 2 1 2 1 1\nend\n",
-        "chain 6\nreach 3 2 0 1 2\nsetup 3 0\nreach 1 0 1 1 0\nsetup 1 1\nreach 2 1 2 1 1\nsetup 2 2\nend\n",
-        "chain 6\nsetup 3 0\nreach 1 0 1 1 0\nsetup 1 1\nreach 2 1 2 1 1\nsetup 2 2\nreach 3 2 0 1 2\nend\n",
     ],
 };
 
@@ -123,13 +110,7 @@ const HOPELESS: Row = Row {
          arc q1 d2 70 70\narc q2 d0 10 10\nbounds 1\nbound s3 s1 -100 0\nend\n",
     ],
     answer: "corners 1\nnever\n",
-    chains: &[
-        "chain 5\nbound 0\nreach 1 0 1 1 0\nsetup 1 1\nreach 2 1 2 1 1\nsetup 2 2\nend\n",
-        "chain 5\nreach 1 0 1 1 0\nsetup 1 1\nreach 2 1 2 1 1\nsetup 2 2\nbound 0\nend\n",
-        "chain 5\nsetup 1 1\nreach 2 1 2 1 1\nsetup 2 2\nbound 0\nreach 1 0 1 1 0\nend\n",
-        "chain 5\nreach 2 1 2 1 1\nsetup 2 2\nbound 0\nreach 1 0 1 1 0\nsetup 1 1\nend\n",
-        "chain 5\nsetup 2 2\nbound 0\nreach 1 0 1 1 0\nsetup 1 1\nreach 2 1 2 1 1\nend\n",
-    ],
+    chains: &["chain 5\nreach 1 0 1 1 0\nsetup 1 1\nreach 2 1 2 1 1\nsetup 2 2\nbound 0\nend\n"],
 };
 
 /// The systems of a row.

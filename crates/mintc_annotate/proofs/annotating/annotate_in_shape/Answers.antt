@@ -2,7 +2,8 @@ use Rattle.std.proofs.Common.{◌∙◌, sym, arith}
 use Rattle.std.proofs.lemmas.Result.{err_from_is_err_and}
 use Rattle.mintc_annotate.specs.Gathered.{design_of_gathered}
 use Rattle.mintc_annotate.specs.Made.{too_many}
-use Rattle.mintc_annotate.proofs.AnnotateLaws.{few_gathered, made_of, parts_of, built, stops_gathering}
+use Rattle.mintc_annotate.proofs.AnnotateLaws.{few_gathered, made_of, built, stops_gathering}
+use Rattle.mintc_annotate.proofs.SharedPartLaws.{parts_of}
 use Rattle.mintc_annotate.proofs.annotating.annotate_in_shape.Goals as goal
 
 pub build-requires-clause-parts : goal.build-requires-clause-parts

@@ -4,7 +4,7 @@ use Rattle.mintc_cells.specs.Entries.{cell_at}
 use Rattle.mintc_flatten_hierarchy.specs.declared.hierarchy.Leaf.{Leaf}
 use Rattle.mintc_annotate_resolve.specs.Pins.{is_storage, no_leaf}
 use Rattle.mintc_annotate.proofs.BuildLaws.{number_no}
-use Rattle.mintc_annotate.proofs.TraceLaws.{number_yes}
+use Rattle.mintc_annotate.proofs.SharedTraceLaws.{number_yes}
 use Rattle.mintc_annotate.proofs.arcs.next_element.Goals as goal
 
 pub returns-then-is_storage-clause-value : goal.returns-then-is_storage-clause-value

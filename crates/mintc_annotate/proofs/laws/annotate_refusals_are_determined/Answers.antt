@@ -1,4 +1,4 @@
-use Rattle.mintc_annotate.proofs.DesignLaws.{one_refusal_lem}
+use Rattle.mintc_annotate.proofs.SharedDesignLaws.{one_refusal_lem}
 use Rattle.mintc_annotate.proofs.laws.annotate_refusals_are_determined.Goals as goal
 
 pub returns : goal.returns

@@ -1,4 +1,4 @@
-use Rattle.mintc_annotate.proofs.TraceLaws.{from_end}
+use Rattle.mintc_annotate.proofs.SharedTraceLaws.{from_end}
 use Rattle.mintc_annotate.proofs.tracing.phase_from.Goals as goal
 
 pub returns-in-Some : goal.returns-in-Some

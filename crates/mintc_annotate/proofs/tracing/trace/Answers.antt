@@ -5,7 +5,7 @@ use Rattle.std.proofs.lemmas.Slice.Zip.{AllZip-long}
 use Rattle.mintc_annotate.specs.Phases.{drives, IsPhaseOf}
 use Rattle.mintc_annotate_resolve.specs.Pins.{all_leaves}
 use Rattle.mintc_annotate.specs.Searches.{AreDrivers, AreLongJumps}
-use Rattle.mintc_annotate.proofs.TraceLaws.{stored, stored_more, stored_split, stored_all, phase_of_leaf, none_of_leaf}
+use Rattle.mintc_annotate.proofs.SharedTraceLaws.{stored, stored_more, stored_split, stored_all, phase_of_leaf, none_of_leaf}
 use Rattle.mintc_annotate.proofs.tracing.trace.Goals as goal
 
 pub loop-number-preserved-in_default : goal.loop-number-preserved-in_default

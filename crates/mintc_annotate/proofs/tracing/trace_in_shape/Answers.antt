@@ -1,6 +1,6 @@
 use Rattle.std.proofs.Common.{◌∙◌}
 use Rattle.std.proofs.lemmas.Result.{err_from_is_err_and}
-use Rattle.mintc_annotate.proofs.TraceLaws.{stop_of_ports, traced_of_spots}
+use Rattle.mintc_annotate.proofs.SharedTraceLaws.{stop_of_ports, traced_of_spots}
 use Rattle.mintc_annotate.proofs.tracing.trace_in_shape.Goals as goal
 
 pub returns-in_err-spots : goal.returns-in_err-spots

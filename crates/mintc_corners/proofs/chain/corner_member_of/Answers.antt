@@ -1,6 +1,6 @@
 use Rattle.std.proofs.Common.{arith}
 use Rattle.std.proofs.lemmas.Grind.{common_steps}
-use Rattle.mintc_corners.proofs.MemberLaws.{listed, standing}
+use Rattle.mintc_corners.proofs.SharedMemberLaws.{listed, standing}
 use Rattle.mintc_corners.proofs.chain.corner_member_of.Goals as goal
 
 pub member_of-requires : goal.member_of-requires

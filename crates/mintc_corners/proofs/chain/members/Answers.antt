@@ -1,6 +1,6 @@
 use Rattle.std.proofs.Common.{arith}
 use Rattle.std.proofs.lemmas.Grind.{common_steps}
-use Rattle.mintc_corners.proofs.MemberLaws.{stand_read}
+use Rattle.mintc_corners.proofs.SharedMemberLaws.{stand_read}
 use Rattle.mintc_corners.proofs.chain.members.Goals as goal
 
 pub loop-number-preserved : goal.loop-number-preserved

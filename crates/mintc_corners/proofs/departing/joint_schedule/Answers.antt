@@ -1,5 +1,5 @@
 use Rattle.std.proofs.Common.{◌∙◌, ap, length}
-use Rattle.mintc_corners.proofs.ScheduleLaws.{first_schedule}
+use Rattle.mintc_corners.proofs.SharedScheduleLaws.{first_schedule}
 use Rattle.mintc_corners.proofs.departing.joint_schedule.Goals as goal
 
 pub returns-clause-value : goal.returns-clause-value

@@ -7,7 +7,7 @@ use Rattle.mintc_corners.specs.Lifted.{lifted_link, widest}
 use Rattle.mintc_corners.specs.Joined.{joined_links}
 use Rattle.mintc_corners.specs.Joint.{joint_nodes}
 use Rattle.mintc_corners.proofs.LoopLaws.{elements_done, elements_more, joined_done, joined_more, list_at, low_at, nodes_of}
-use Rattle.mintc_corners.proofs.PlaceLaws.{by_first, joined_ordinary}
+use Rattle.mintc_corners.proofs.SharedPlaceLaws.{by_first, joined_ordinary}
 use Rattle.mintc_corners.proofs.joining.joint_links.Goals as goal
 
 pub append_corner-requires-clause-links : goal.append_corner-requires-clause-links

@@ -2,7 +2,7 @@ use Rattle.std.proofs.Common.{◌∙◌, refl, sym}
 use Rattle.std.proofs.lemmas.List.{get_or_default}
 use Rattle.mintc_timing.specs.Design.{no_pair}
 use Rattle.mintc_safe.proofs.HoldLaws.{min_read}
-use Rattle.mintc_safe.proofs.StandingLaws.{hold_stands}
+use Rattle.mintc_safe.proofs.SharedStandingLaws.{hold_stands}
 use Rattle.mintc_safe.proofs.chain.hold_of.Goals as goal
 
 pub shortest_path_of-requires : goal.shortest_path_of-requires

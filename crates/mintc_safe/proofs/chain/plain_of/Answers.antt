@@ -1,4 +1,4 @@
-use Rattle.mintc_safe.proofs.StandingLaws.{plain_stands}
+use Rattle.mintc_safe.proofs.SharedStandingLaws.{plain_stands}
 use Rattle.mintc_safe.proofs.chain.plain_of.Goals as goal
 
 pub returns : goal.returns

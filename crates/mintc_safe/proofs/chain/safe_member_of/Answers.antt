@@ -2,7 +2,7 @@ use Rattle.std.proofs.Common.{IfOk, sym, subst}
 use Rattle.mintc_timing.specs.declared.link.Link.{Link}
 use Rattle.mintc_timing.specs.declared.link.LinkKind.TheVariants as kind
 use Rattle.mintc_safe.specs.SafeOptimum.{StandsFor}
-use Rattle.mintc_safe.proofs.StandingLaws.{is_of_design, of_safe_kind}
+use Rattle.mintc_safe.proofs.SharedStandingLaws.{is_of_design, of_safe_kind}
 use Rattle.mintc_safe.proofs.chain.safe_member_of.Goals as goal
 
 pub hold_of-requires : goal.hold_of-requires

@@ -18,12 +18,12 @@ use Rattle.mintc_annotate.specs.Phases.{storage, drives, EndsAt, first_at, phase
 use Rattle.mintc_annotate.specs.Made.{design_made, IsMade, IsAnnotated, IsAnnotateRefusal, no_port, annotates_nothing, no_phase, too_many}
 use Rattle.mintc_annotate_resolve.specs.Resolution.{first_refusal}
 use Rattle.mintc_annotate.specs.Laws.{DesignsAreDetermined, DesignsAreNotRefused, AnnotateRefusalsAreDetermined}
-use Rattle.mintc_annotate.proofs.TraceLaws.{one_start, one_end}
+use Rattle.mintc_annotate.proofs.SharedTraceLaws.{one_start, one_end}
 
-one_of : {A : Type 0} (o : Option A) (x y : A) → o ≡ Some x → o ≡ Some y → x ≡ y
+pub one_of : {A : Type 0} (o : Option A) (x y : A) → o ≡ Some x → o ≡ Some y → x ≡ y
 one_of o x y a b = cc
 
-none_or : {A : Type 0} (o : Option A) (x : A) → o ≡ None → o ≡ Some x → ⊥
+pub none_or : {A : Type 0} (o : Option A) (x : A) → o ≡ None → o ≡ Some x → ⊥
 none_or o x a b = absurd (cc)
 
 -- a latch or flop has one phase
@@ -33,7 +33,7 @@ one_phase h cells spots l p q a b =
     let end : a.end ≡ b.end = one_end (drives h cells) a.steps b.steps a.start a.end b.end a.ends (subst (λ (s : Spot). EndsAt (drives h cells) b.steps s b.end) start b.ends) in
     one_of (first_at 1 spots b.end) p q (ap (first_at 1 spots) (sym end) ∙ a.found) b.found
 
-one_list : (h : Hierarchy) (cells : CellTable) (spots : List Spot) (ls ps qs : List ℕ) → AllZip (IsPhaseOf h cells spots) ls ps → AllZip (IsPhaseOf h cells spots) ls qs → ps ≡ qs
+pub one_list : (h : Hierarchy) (cells : CellTable) (spots : List Spot) (ls ps qs : List ℕ) → AllZip (IsPhaseOf h cells spots) ls ps → AllZip (IsPhaseOf h cells spots) ls qs → ps ≡ qs
 one_list h cells spots [] [] [] a b = refl
 one_list h cells spots (l ∷ ls) (p ∷ ps) (q ∷ qs) a b = ap (λ x. x ∷ ps) (one_phase h cells spots l p q a.0 b.0) ∙ ap (λ xs. q ∷ xs) (one_list h cells spots ls ps qs a.1 b.1)
 one_list h cells spots _ _ [] a b = absurd (grind arith)
@@ -47,7 +47,7 @@ pub determined_lem : DesignsAreDetermined
 determined_lem most h cells clock delays design other a b = one_made h cells clock delays design other a.whole b.whole
 
 -- where all are traced, each is
-each_traced : (h : Hierarchy) (cells : CellTable) (spots : List Spot) (before : List ℕ) (l : ℕ) (after ps : List ℕ) → AllZip (IsPhaseOf h cells spots) (before ++ l ∷ after) ps → (p : ℕ) × IsPhaseOf h cells spots l p
+pub each_traced : (h : Hierarchy) (cells : CellTable) (spots : List Spot) (before : List ℕ) (l : ℕ) (after ps : List ℕ) → AllZip (IsPhaseOf h cells spots) (before ++ l ∷ after) ps → (p : ℕ) × IsPhaseOf h cells spots l p
 each_traced h cells spots [] l after (p ∷ ps) a = (p, a.0)
 each_traced h cells spots (b ∷ before) l after (p ∷ ps) a = each_traced h cells spots before l after ps a.1
 each_traced h cells spots _ l after _ a = absurd a
@@ -57,7 +57,7 @@ untraced_or_made h cells clock delays design e made untraced =
     let traced = each_traced h cells (phase_spots h clock) untraced.before untraced.leaf untraced.after made.phases (subst (λ (l : List ℕ). AllZip (IsPhaseOf h cells (phase_spots h clock)) l made.phases) untraced.whole made.traced) in
     untraced.none traced.0 traced.1
 
-no_port_refusal : (tests : List Bool) (refused : Refusal) → first_false tests ≡ None → IsPortRefusal tests refused → ⊥
+pub no_port_refusal : (tests : List Bool) (refused : Refusal) → first_false tests ≡ None → IsPortRefusal tests refused → ⊥
 no_port_refusal tests (refusal.NoInstance role.Clock entry) none h = none_or (first_false tests) entry none h
 no_port_refusal tests _ none h = h
 
@@ -83,11 +83,11 @@ same_place h cells spots l m (x ∷ xs) (y ∷ ys) after others (p ∷ ps) (q �
 same_place h cells spots l m _ (y ∷ ys) after others ps [] e a b none other = absurd b
 same_place h cells spots l m (x ∷ xs) _ after others [] qs e a b none other = absurd a
 
-one_untraced : (h : Hierarchy) (cells : CellTable) (spots : List Spot) (e f : ℕ) → IsFirstUntraced h cells spots e → IsFirstUntraced h cells spots f → e ≡ f
+pub one_untraced : (h : Hierarchy) (cells : CellTable) (spots : List Spot) (e f : ℕ) → IsFirstUntraced h cells spots e → IsFirstUntraced h cells spots f → e ≡ f
 one_untraced h cells spots e f a b =
     a.count ∙ same_place h cells spots a.leaf b.leaf a.before b.before a.after b.after a.phases b.phases (sym a.whole ∙ b.whole) a.traced b.traced a.none b.none ∙ sym b.count
 
-one_port : (tests : List Bool) (refused other : Refusal) → IsPortRefusal tests refused → IsPortRefusal tests other → refused ≡ other
+pub one_port : (tests : List Bool) (refused other : Refusal) → IsPortRefusal tests refused → IsPortRefusal tests other → refused ≡ other
 one_port tests (refusal.NoInstance role.Clock entry) (refusal.NoInstance role.Clock number) a b = ap (λ (n : ℕ). refusal.NoInstance role.Clock n) (one_of (first_false tests) entry number a b)
 one_port tests (refusal.NoInstance role.Clock entry) _ a b = absurd b
 one_port tests _ other a b = absurd a

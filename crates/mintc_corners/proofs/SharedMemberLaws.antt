@@ -18,7 +18,7 @@ use Rattle.mintc_corners.specs.Joint.{AreCorners}
 use Rattle.mintc_corners.specs.Laws.{AreSystems}
 use Rattle.mintc_corners.proofs.LiftLaws.{elements_before}
 use Rattle.mintc_corners.proofs.LoopLaws.{list_at}
-use Rattle.mintc_corners.proofs.PlaceLaws.{besides, by_first, joined_at}
+use Rattle.mintc_corners.proofs.SharedPlaceLaws.{besides, by_first, joined_at}
 use Rattle.mintc_corners.proofs.StandingLaws.{standing_for}
 
 -- one more member, of any corners

@@ -32,8 +32,8 @@ use Rattle.mintc_corners.proofs.BesideLaws.{beside_in_parts}
 use Rattle.mintc_corners.proofs.GreatestLaws.{carried_greatest}
 use Rattle.mintc_corners.proofs.JoinedLaws.{joined_listed, links_joined}
 use Rattle.mintc_corners.proofs.JointLaws.{corners_are_modest_lem, joint_cycle_is_least_lem, jointly_hopeless_is_hopeless_lem, phases_are}
-use Rattle.mintc_corners.proofs.PlaceLaws.{by_first, joined_ordinary, nodes_are}
-use Rattle.mintc_corners.proofs.ScheduleLaws.{sayable_of_all, schedule_same}
+use Rattle.mintc_corners.proofs.SharedPlaceLaws.{by_first, joined_ordinary, nodes_are}
+use Rattle.mintc_corners.proofs.SharedScheduleLaws.{sayable_of_all, schedule_same}
 use Rattle.mintc_corners.proofs.TransferLaws.{carried_chain}
 use Rattle.mintc_corners.proofs.ValuesLaws.{counts_are, departures_are}
 

@@ -26,7 +26,7 @@ use Rattle.mintc_annotate.specs.Made.{IsMade, IsAnnotated, IsAnnotateRefusal, no
 use Rattle.mintc_annotate.specs.Laws.{HaveDesignOrRefusal}
 use Rattle.mintc_annotate.proofs.JumpLaws.{ends_there, led_on}
 use Rattle.mintc_annotate.proofs.SearchLaws.{never_ends}
-use Rattle.mintc_annotate.proofs.TraceLaws.{no_phase as ends_nowhere, phase_of_leaf, none_of_leaf}
+use Rattle.mintc_annotate.proofs.SharedTraceLaws.{no_phase as ends_nowhere, phase_of_leaf, none_of_leaf}
 
 -- a number above all bits of drivers, and above another
 bits_above : (ds : List Drive) (b : ℕ) → (count : ℕ) × AreWithin count ds × (b < count)
@@ -53,7 +53,7 @@ searches : (ds : List Drive) (s : Spot) → Searches ds s
 searches ds s = let above = bits_above ds s.bit in searches_from ds s above.0 (driver_of ds (onward ds above.0 s).bit) above.1 above.2 refl
 
 -- a spot has a phase or none
-abbrev Phased : (ℕ → Type 0) → Type 0
+abbrev pub Phased : (ℕ → Type 0) → Type 0
 Phased P = ((p : ℕ) × P p) ⊎ ((p : ℕ) → P p → ⊥)
 
 phase_at : (ds : List Drive) (spots : List Spot) (s end : Spot) (n : ℕ) (o : Option ℕ) → EndsAt ds n s end → first_at 1 spots end ≡ o → Phased (IsPhaseFrom ds spots s)
@@ -74,7 +74,7 @@ start_of h l (Flop pin_d pin_clock rising outputs ignored setup hold has_hold cq
 start_of h l (Clock input output invert ignored) = inr (λ s is. is)
 
 -- what is traced of some leaves: all their phases, or those before the first without one
-abbrev Traced : (ℕ → ℕ → Type 0) → List ℕ → Type 0
+abbrev pub Traced : (ℕ → ℕ → Type 0) → List ℕ → Type 0
 Traced P ls = ((phases : List ℕ) × AllZip P ls phases)
     ⊎ ((before : List ℕ) × (phases : List ℕ) × (leaf : ℕ) × (after : List ℕ) × (ls ≡ before ++ leaf ∷ after) × AllZip P before phases × ((p : ℕ) → P leaf p → ⊥))
 
@@ -84,15 +84,15 @@ one_more P l ls (inl (p, here)) (inr (before, phases, leaf, after, whole, all, n
     inr (l ∷ before, p ∷ phases, leaf, after, ap (λ (xs : List ℕ). l ∷ xs) whole, (here, all), none)
 one_more P l ls (inr none) other = inr ([], [], l, ls, refl, tt, none)
 
-traced : (P : ℕ → ℕ → Type 0) → ((l : ℕ) → Phased (P l)) → (ls : List ℕ) → Traced P ls
+pub traced : (P : ℕ → ℕ → Type 0) → ((l : ℕ) → Phased (P l)) → (ls : List ℕ) → Traced P ls
 traced P each [] = inl ([], tt)
 traced P each (l ∷ ls) = one_more P l ls (each l) (traced P each ls)
 
 module _ (most : Most) (h : Hierarchy) (cells : CellTable) (clock : clock_type.Clock) (delays : List Delay) where
-  abbrev spots : List Spot
+  abbrev pub spots : List Spot
   spots = phase_spots h clock
 
-  phase_of : (l : ℕ) → Phased (IsPhaseOf h cells spots l)
+  pub phase_of : (l : ℕ) → Phased (IsPhaseOf h cells spots l)
   phase_of l = ⊎_elim
       (λ (starts : (s : Spot) × IsStart h l (leaf_cell h cells l) s).
       ⊎_elim

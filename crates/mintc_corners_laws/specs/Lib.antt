@@ -1,0 +1,2 @@
+-- What contracts of public calls and laws say:
+pub mod Existence

@@ -1,0 +1,9 @@
+//! What holds of each system, whether or not a machine has memory to find it.
+//!
+//! The crate below finds the least cycle time that keeps each hold, with its certificate, and may stop for want of
+//! memory. The law here says that there always is one, as mintc_optimise_laws says of optima.
+#![tactic(auto)]
+
+mod laws;
+
+pub use laws::safe_optima_exist;
