@@ -1,0 +1,16 @@
+mod CarriedLaws
+mod ListLaws
+mod ConditionLaws
+mod PortLaws
+mod ScaleLaws
+mod RoundLaws
+mod SpanLaws
+mod TellingLaws
+mod ItemLaws
+mod WalkLaws
+mod ValueLaws
+mod MergedLaws
+mod FormLaws
+mod MergeLaws
+mod FitLaws
+mod Worked

@@ -1,0 +1,7 @@
+mod ValueLaws
+mod TextLaws
+mod WordLaws
+mod GroupLaws
+mod NoteLaws
+mod SenseLaws
+mod RowLaws

@@ -1,0 +1,6 @@
+-- What contracts of public calls and laws say:
+pub mod Words
+pub mod Senses
+pub mod Laws
+-- What only the proofs need:
+pub mod Seen
