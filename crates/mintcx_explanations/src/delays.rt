@@ -68,8 +68,8 @@ Static timing tools write such numbers where they read a library's tables
 beyond their ends, as OpenSTA does at long nets without buffers.
 
 Have long nets buffered (docs/from-tools.md says how). Or write 0 in place of
-the number: that is safe for setups, and not for holds. Or move what the
-number takes off to the delay before it.
+the number, as `mintcx --clamp-negative` reads it: that is safe for setups,
+not for holds. Or move what the number takes off to the delay before it.
 "
 }
 

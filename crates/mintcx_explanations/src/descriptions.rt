@@ -95,8 +95,9 @@ that no phase names, or on a ring.
 
 Give the phase its port and its level. Describe buffers, inverters and clock
 gates on the way as cells of kind `clock`, with one pin for the clock and the
-others in `ignored`. Where the clock comes to such a cell now at one pin and
-now at another, or data goes through it elsewhere, name a cell of its own for
-the clock in the source (docs/from-tools.md).
+others in `ignored`; of a library, `mintcx --clock-cell NAME` takes a buffer
+or an inverter so. Where the clock comes to such a cell now at one pin and now
+at another, or data goes through it elsewhere, name a cell of its own for the
+clock in the source (docs/from-tools.md).
 "
 }

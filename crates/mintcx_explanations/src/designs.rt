@@ -48,8 +48,9 @@ are taken. Counts above 10^9 are written as 10^9.
 `mintc_large` has the limits of `mintcx`. With `corners`, the elements of all
 corners count together. `slack` takes 2,000 elements in any case.
 
-Judge the design in parts: name a smaller `top` in the clock description, or
-give fewer delay files at once.
+Judge the design in parts: name a smaller `top` in the clock description, and
+have its delays written anew for it; or give fewer delay files at once. More
+phases or bounds than these are not taken.
 "
 }
 

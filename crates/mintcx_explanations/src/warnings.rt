@@ -22,7 +22,9 @@ the same edge, the least cycle time comes out too small.
 
 Put such an output on a phase that ends at that edge: a phase `low` on the
 same port, with `level = \"low\"`, and a bound from `end low` to `start clk`
-with `gap = 0` and `cycles = 1` (docs/formats.md, \"A clock description\").
+with `gap = 0` and `cycles = 1` (docs/formats.md, \"A clock description\"). For
+flops of the falling edge, on a phase `low`, that is a phase `high` above it,
+and a bound from `end high` to `start low` with `gap = 0` and `cycles = 0`.
 Where the output is taken when the phase ends, as by a latch, nothing is to
 be done.
 "
@@ -46,8 +48,9 @@ opening, that is too small. So it is where a flop of the rising edge leads
 to one of the falling edge, and each was made of two latches.
 
 Where one opening is meant, make one latch of the two, or give one of them a
-phase of its own. Where the next one is meant, as with latches that are
-opened by pulses, nothing is to be done.
+phase of its own: on a port of its own, and listed just behind the other's,
+since phases start in the order of the file. Where the next opening is meant,
+as with latches that are opened by pulses, nothing is to be done.
 "
 }
 

@@ -1,2 +1,3 @@
+mod LeavingLaws
 mod StorageLaws
 mod TallyLaws

@@ -188,7 +188,9 @@ fn help_of(case: &Case<'_>) -> &'static [u8] {
         Refusal::NoInstance { .. } => {
             b"write the SDF of this very netlist; look at DIVIDER, and at names with backslashes"
         }
-        Refusal::Negative { .. } => { b"buffer the net" }
+        Refusal::Negative { .. } => {
+            b"buffer the net; or `--clamp-negative`, which takes 0 for it: safe for setups, not for holds"
+        }
         Refusal::BadCell { rule, .. } => cell_help(*rule),
         Refusal::BadClock { rule, .. } => clock_help(*rule),
         Refusal::CombinationalLoop { .. } => b"break the loop, or put the missing latch into it",

@@ -1,4 +1,6 @@
 mod ReadingLaws
 mod ReplyLaws
+mod TakingLaws
 mod RefusalLaws
 mod DeliveryLaws
+mod WarnedLaws

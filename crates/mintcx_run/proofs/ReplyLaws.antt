@@ -1,5 +1,5 @@
 -- The replies to words, requests and calls.
-use Rattle.std.proofs.Common.{arith, ◌≡◌, ◌+◌, ◌<◌, ℕ, List, length, get_or, true, false, refl, sym, subst, inl, inr, Option, Some, None, MatchOption, Result, Ok, Err, IfErr, Contains}
+use Rattle.std.proofs.Common.{arith, ◌⊎◌, ◌≡◌, ◌+◌, ◌<◌, ℕ, List, length, get_or, Bool, true, false, refl, sym, subst, inl, inr, Option, Some, None, MatchOption, Result, Ok, Err, IfErr, Contains}
 use Rattle.std.proofs.lemmas.List.Elements.{Contains-get_or}
 use Rattle.mintc_text.specs.declared.limits.TheConstants.{MOST_BYTES}
 use Rattle.mintc_text.specs.Outside.{Files}
@@ -16,14 +16,15 @@ use Rattle.mintcx_project.specs.declared.project.Settings.{Settings}
 use Rattle.mintcx_explanations.specs.Explanations.{IsOfNumber, IsRefusalNumber, IsWarningPage, Names, NamesNoWarning}
 use Rattle.mintc_text.specs.Limits.{large}
 use Rattle.mintc_command_answers.specs.Corners.{IsFirstRefused, corners_of}
-use Rattle.mintcx_answers.specs.Halts.{HaltsAt}
-use Rattle.mintcx_answers.specs.declared.halts.Halt.{Halt}
-use Rattle.mintcx_answers.specs.declared.halts.Halt.TheVariants as halt
 use Rattle.mintcx_run.specs.declared.answers.Told.{Told}
 use Rattle.mintcx_run.specs.declared.orders.Order.{Order}
 use Rattle.mintcx_run.specs.declared.reply.Reply.{Reply}
-use Rattle.mintcx_run.specs.Replies.{AreDescribed, AreUnread, IsCallReply, IsCornerReply, IsEarlyReply, IsExplanationReply, IsFrontsAnswer, IsFrontsRefusal, IsFrontsReply, IsGiven, IsGivenReply, IsMessage, IsOrdered, IsOtherReply, IsPageOf, IsPageOfRefusal, IsPlaced, IsRefusalReply, IsRefused, IsRefusedCorner, IsReply, IsSettings, IsUnread, IsWordsReply, NamesNoRefusal, NamesNone, read_as}
-use Rattle.mintcx_run.specs.Warned.{IsWarned}
+use Rattle.mintcx_clock_cells.specs.declared.unfit.Unfit.{Unfit}
+use Rattle.mintcx_run.specs.Libraries.{AreGiven, IsUndescribed}
+use Rattle.mintcx_run.specs.Replies.{AreUnread, IsAnswered, IsAnswerReply, IsCallReply, IsCornerReply, IsDeniedCorner, IsDeniedReply, IsEarlyReply, IsExplanationReply, IsGiven, IsGivenReply, IsMessage, IsOrdered, IsOtherReply, IsOutOfMemory, IsPageOf, IsPageOfRefusal, IsPlaced, IsRefusalReply, IsRefused, IsReply, IsSettings, IsTakenReply, IsUnfitReply, IsUnread, IsWordsReply, NamesNoRefusal, NamesNone, read_as}
+use Rattle.mintc_command_answers.specs.Sources.{file_at}
+use Rattle.mintcx_run.specs.Taken.{AreTaken, IsTaken, is_asked}
+use Rattle.mintcx_run.specs.Warned.{AreAllWarned, AreClampsTold}
 
 -- an explanation is asked for, and given
 pub explained : (asked : Request) (topic : Text) (reply : Reply) → asked ≡ request.Explain topic → IsExplanationReply topic reply → IsOtherReply asked reply
@@ -53,33 +54,54 @@ early_gap (Err reply) given files settings asked said is h = inr (settings, said
 pub unread_one : (names : List Text) (n : ℕ) (name : Text) (reply : Reply) → n < length names → name ≡ get_or names n name → IsUnread name reply → AreUnread names reply
 unread_one names n name reply below is h = inr (name, subst (λ (x : Text). Contains names x) (sym is) (Contains-get_or names n name below), h)
 
--- the reply to a call, of files that are read: its answer, why there is none, or that memory was wanting
-pub call_told : (files : Option Files) (order as_read : Order) (fronts : List Text) (told : Told) (reply : Reply) → as_read ≡ read_as order fronts →
-    AreFronts files (MOST_BYTES + 1) order.call.files fronts → IsFrontsAnswer as_read fronts told → IsPlaced as_read told reply → IsWarned as_read fronts reply.warnings → IsCallReply files order reply
-call_told files order as_read fronts told reply same are h placed warned =
-    let own : IsFrontsReply files as_read fronts reply = inr (inl (told, h, placed, warned)) in
-    inr (fronts, are, subst (λ (o : Order). IsFrontsReply files o fronts reply) same own)
+-- the reply to an order of the texts that are given: its answer, or why there is none
+abbrev pub IsOfGiven : Option Files → Order → List Text → List Text → Reply → Type 0
+IsOfGiven files order fronts given reply = IsAnswerReply order fronts given reply ⊎ (IsDeniedReply files order given reply ⊎ IsDeniedCorner files order given reply)
 
-pub call_refused : (files : Option Files) (order as_read : Order) (fronts : List Text) (refused : Refusal) (reply : Reply) → as_read ≡ read_as order fronts →
-    AreFronts files (MOST_BYTES + 1) order.call.files fronts → IsFrontsRefusal as_read fronts refused → IsRefusalReply files as_read refused reply → IsCallReply files order reply
-call_refused files order as_read fronts refused reply same are h said =
-    let own : IsFrontsReply files as_read fronts reply = inr (inr (inl (refused, h, said))) in
-    inr (fronts, are, subst (λ (o : Order). IsFrontsReply files o fronts reply) same own)
+pub given_told : (files : Option Files) (order : Order) (fronts given : List Text) (told : Told) (reply : Reply) → IsAnswered order given told → IsPlaced order told reply → AreAllWarned order fronts given reply.warnings →
+    IsOutOfMemory reply ⊎ IsOfGiven files order fronts given reply
+given_told files order fronts given told reply h placed warned = inr (inl (told, h, placed, warned))
 
-pub call_refused_corner : (files : Option Files) (order as_read : Order) (fronts : List Text) (corner : ℕ) (own : Refusal) (reply : Reply) → as_read ≡ read_as order fronts →
-    AreFronts files (MOST_BYTES + 1) order.call.files fronts → IsFrontsRefusal as_read fronts (refusal.Corner corner) → IsRefusedCorner as_read fronts corner own →
-    IsCornerReply files as_read corner own reply → IsCallReply files order reply
-call_refused_corner files order as_read fronts corner own reply same are h first said =
-    let told : IsFrontsReply files as_read fronts reply = inr (inr (inr (corner, own, h, first, said))) in
-    inr (fronts, are, subst (λ (o : Order). IsFrontsReply files o fronts reply) same told)
+pub given_refused : (files : Option Files) (order : Order) (fronts given : List Text) (refused : Refusal) (reply : Reply) → IsRefused order given refused → IsRefusalReply files order refused reply →
+    IsOutOfMemory reply ⊎ IsOfGiven files order fronts given reply
+given_refused files order fronts given refused reply h said = inr (inr (inl (refused, h, said)))
 
--- why files with the description of a library have no answer
-pub described_halted : {A : Type 0} (r : Result A Halt) (order : Order) (fronts described : List Text) → order.call.of_library ≡ true → AreDescribed fronts described →
-    IfErr r (HaltsAt (IsRefused order described) (IsFirstRefused large (corners_of described) 1)) → IfErr r (HaltsAt (IsFrontsRefusal order fronts) (IsRefusedCorner order fronts))
-described_halted (Ok a) order fronts described of_library are h = tt
-described_halted (Err (halt.Refused refused)) order fronts described of_library are h = inr (of_library, inr (described, are, h))
-described_halted (Err (halt.Corner corner own)) order fronts described of_library are (h, first) = (inr (of_library, inr (described, are, h)), inr (of_library, (described, are, first)))
-described_halted (Err halt.OutOfMemory) order fronts described of_library are h = tt
+pub given_refused_corner : (files : Option Files) (order : Order) (fronts given : List Text) (corner : ℕ) (own : Refusal) (reply : Reply) → IsRefused order given (refusal.Corner corner) →
+    IsFirstRefused large (corners_of given) 1 corner own → IsCornerReply files order corner own reply → IsOutOfMemory reply ⊎ IsOfGiven files order fronts given reply
+given_refused_corner files order fronts given corner own reply h first said = inr (inr (inr (corner, own, h, first, said)))
+
+-- the reply to an order of what is taken of its files
+pub taken_given : (files : Option Files) (order : Order) (fronts taken given : List Text) (reply : Reply) → AreGiven order taken given → IsOutOfMemory reply ⊎ IsOfGiven files order fronts given reply →
+    IsTakenReply files order fronts taken reply
+taken_given files order fronts taken given reply are (inl wanting) = inl wanting
+taken_given files order fronts taken given reply are (inr h) = inr (inr (given, are, h))
+
+pub taken_unfit : (files : Option Files) (order : Order) (fronts taken : List Text) (why : Unfit) (reply : Reply) → IsUndescribed order taken why → IsUnfitReply files order why reply →
+    IsTakenReply files order fronts taken reply
+taken_unfit files order fronts taken why reply un h = inr (inl (why, un, h))
+
+-- what is told of delays below 0 doesn't change as the files are read
+pub clamps_as_read : (order as_read : Order) (fronts taken : List Text) (text : Text) → as_read ≡ read_as order taken → AreClampsTold order fronts text → AreClampsTold as_read fronts text
+clamps_as_read order as_read fronts taken text same told =
+    let own : AreClampsTold (read_as order taken) fronts text = told in
+    subst (λ (o : Order). AreClampsTold o fronts text) (sym same) own
+
+-- the reply to a call, of files that are read
+pub call_taken : (files : Option Files) (order as_read : Order) (fronts taken : List Text) (reply : Reply) → as_read ≡ read_as order taken → AreFronts files (MOST_BYTES + 1) order.call.files fronts →
+    AreTaken order fronts taken → IsTakenReply files as_read fronts taken reply → IsCallReply files order reply
+call_taken files order as_read fronts taken reply same are took h = inr (fronts, taken, are, took, subst (λ (o : Order). IsTakenReply files o fronts taken reply) same h)
+
+-- files that are taken as they are
+pub taken_whole : (b : Bool) (front : Text) → IsTaken b front front
+taken_whole true front = inl refl
+taken_whole false front = refl
+
+pub all_whole : (order : Order) (fronts : List Text) → AreTaken order fronts fronts
+all_whole order fronts = record { count = refl; each = λ at below. taken_whole (is_asked order at) (file_at fronts at) }
+
+-- memory was wanting
+pub call_wanting : (files : Option Files) (order : Order) (fronts : List Text) (reply : Reply) → AreFronts files (MOST_BYTES + 1) order.call.files fronts → IsOutOfMemory reply → IsCallReply files order reply
+call_wanting files order fronts reply are h = call_taken files order (read_as order fronts) fronts fronts reply refl are (all_whole order fronts) (inl h)
 
 -- with one read for the project file, and one for each file
 pub given_answered : (given : Given) (files : Option Files) (order : Order) (reply : Reply) (a b c : Option ℕ) → IsOrdered given files order → IsCallReply files order reply →

@@ -2,4 +2,6 @@
 pub mod Folders
 pub mod Replies
 pub mod Deliveries
+pub mod Taken
+pub mod Libraries
 pub mod Warned

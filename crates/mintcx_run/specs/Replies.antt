@@ -10,9 +10,6 @@ use Rattle.mintc_text.specs.declared.refusals.Refusal.{Refusal}
 use Rattle.mintc_text.specs.declared.refusals.Refusal.TheVariants as refusal
 use Rattle.mintc_text.specs.declared.refusals.Role.TheVariants as role
 use Rattle.mintc_text.specs.Outside.{Files, IsFront}
-use Rattle.mintc_cells.specs.declared.cell.Cell.{Cell}
-use Rattle.mintc_cells.specs.CellsOf.{AreCells}
-use Rattle.mintc_liberty.specs.Meaning.{liberty_cells}
 use Rattle.mintc_command.specs.Answers.{AreFronts}
 use Rattle.mintc_command_answers.specs.Answers.{IsDefined, IsFirstRefusal, IsOfCommand}
 use Rattle.mintc_command_answers.specs.Sources.{file_at}
@@ -80,7 +77,11 @@ use Rattle.mintcx_run.specs.declared.reply.Beside.{Beside}
 use Rattle.mintcx_run.specs.declared.reply.Place.{Place}
 use Rattle.mintcx_run.specs.declared.reply.Place.TheVariants as place
 use Rattle.mintcx_run.specs.declared.reply.Reply.{Reply}
-use Rattle.mintcx_run.specs.Warned.{IsWarned}
+use Rattle.mintcx_clock_cells.specs.declared.unfit.Unfit.{Unfit}
+use Rattle.mintcx_clock_cells.specs.declared.unfit.Unfit.TheVariants as unfit
+use Rattle.mintcx_run.specs.Libraries.{AreGiven, IsUndescribed}
+use Rattle.mintcx_run.specs.Taken.{AreTaken}
+use Rattle.mintcx_run.specs.Warned.{AreAllWarned}
 
 -- ---- kinds of replies
 
@@ -350,51 +351,6 @@ IsAnswered order fronts told = ((is_own order ≡ true) × IsPlain order fronts 
 abbrev pub IsRefused : Order → List Text → Refusal → Type 0
 IsRefused order fronts refused = (is_own order ≡ false) × IsFirstRefusal large order.call.command fronts refused
 
--- ---- corners of a library
-
--- The text is a description of the very cells of a library's text.
-abbrev pub IsDescriptionOf : Text → Text → Type 0
-IsDescriptionOf library text =
-    (cells : List (Text × Cell)) × (liberty_cells library ≡ Ok cells) × AreCells text cells
-
--- Why a library's text is refused: it is too long, or out of form.
-abbrev pub IsLibraryRefusal : Text → Refusal → Type 0
-IsLibraryRefusal library refused = ((MOST_BYTES < length library) × (refused ≡ refusal.TooLong role.Cells))
-    ⊎ ((length library ≤ MOST_BYTES) × (n : ℕ) × (liberty_cells library ≡ Err n)
-    × (refused ≡ refusal.Syntax role.Cells n))
-
--- The second file is a library, and a description of its very cells is put in its place.
-abbrev pub AreDescribed : List Text → List Text → Type 0
-AreDescribed fronts described =
-    (text : Text) × IsDescriptionOf (file_at fronts 1) text × (described ≡ slice_set fronts 1 text)
-
--- the answer with the cells of a library, which is that with their description
-abbrev pub IsAnswerOfLibrary : Order → List Text → Told → Type 0
-IsAnswerOfLibrary order fronts told =
-    (described : List Text) × AreDescribed fronts described × IsAnswered order described told
-
--- there is none: the library is refused, or the files with its description are
-abbrev pub IsRefusalOfLibrary : Order → List Text → Refusal → Type 0
-IsRefusalOfLibrary order fronts refused = IsLibraryRefusal (file_at fronts 1) refused
-    ⊎ ((described : List Text) × AreDescribed fronts described × IsRefused order described refused)
-
--- the answer to a call, of the first bytes of its files
-abbrev pub IsFrontsAnswer : Order → List Text → Told → Type 0
-IsFrontsAnswer order fronts told = ((order.call.of_library ≡ false) × IsAnswered order fronts told)
-    ⊎ ((order.call.of_library ≡ true) × IsAnswerOfLibrary order fronts told)
-
--- why there is none, in the form for people
-abbrev pub IsFrontsRefusal : Order → List Text → Refusal → Type 0
-IsFrontsRefusal order fronts refused = ((order.call.of_library ≡ false) × IsRefused order fronts refused)
-    ⊎ ((order.call.of_library ≡ true) × IsRefusalOfLibrary order fronts refused)
-
--- a corner is the first whose own files are refused, and so they are, with the cells of a library by their description
-abbrev pub IsRefusedCorner : Order → List Text → ℕ → Refusal → Type 0
-IsRefusedCorner order fronts corner own =
-    ((order.call.of_library ≡ false) × IsFirstRefused large (corners_of fronts) 1 corner own)
-    ⊎ ((order.call.of_library ≡ true) × ((described : List Text) × AreDescribed fronts described
-    × IsFirstRefused large (corners_of described) 1 corner own))
-
 -- ---- refusals, as they are told
 
 -- The first bytes of the file that a refusal speaks of, one more than a file may have; or none.
@@ -519,14 +475,35 @@ IsCornerReply files order corner own reply = IsOutOfMemory reply
 
 -- ---- the reply
 
--- the answer, where its order wants it, with its warnings; or why there is none, as a message; or memory was wanting
-abbrev pub IsFrontsReply : Option Files → Order → List Text → Reply → Type 0
-IsFrontsReply files order fronts reply = IsOutOfMemory reply
-    ⊎ (((told : Told) × IsFrontsAnswer order fronts told × IsPlaced order told reply
-    × IsWarned order fronts reply.warnings)
-    ⊎ (((refused : Refusal) × IsFrontsRefusal order fronts refused × IsRefusalReply files order refused reply)
-    ⊎ ((corner : ℕ) × (own : Refusal) × IsFrontsRefusal order fronts (refusal.Corner corner)
-    × IsRefusedCorner order fronts corner own × IsCornerReply files order corner own reply)))
+-- the answer to an order of the texts that are given, where it wants it, with its warnings and those of delays below 0
+abbrev pub IsAnswerReply : Order → List Text → List Text → Reply → Type 0
+IsAnswerReply order fronts given reply = (told : Told) × IsAnswered order given told × IsPlaced order told reply
+    × AreAllWarned order fronts given reply.warnings
+
+-- why there is none: the files are refused
+abbrev pub IsDeniedReply : Option Files → Order → List Text → Reply → Type 0
+IsDeniedReply files order given reply =
+    (refused : Refusal) × IsRefused order given refused × IsRefusalReply files order refused reply
+
+-- or a corner is, which is the first whose own files are refused
+abbrev pub IsDeniedCorner : Option Files → Order → List Text → Reply → Type 0
+IsDeniedCorner files order given reply = (corner : ℕ) × (own : Refusal)
+    × IsRefused order given (refusal.Corner corner) × IsFirstRefused large (corners_of given) 1 corner own
+    × IsCornerReply files order corner own reply
+
+-- why a library has no description: its refusal, or a message on a gate
+abbrev pub IsUnfitReply : Option Files → Order → Unfit → Reply → Type 0
+IsUnfitReply files order (unfit.Refused refused) reply = IsRefusalReply files order refused reply
+IsUnfitReply files order unfit.OutOfMemory reply = IsOutOfMemory reply
+IsUnfitReply files order gate reply = IsMessage Usage reply
+
+-- The reply to an order of what is taken of its files: its library has no description; or its answer, or why there is
+-- none; or memory was wanting.
+abbrev pub IsTakenReply : Option Files → Order → List Text → List Text → Reply → Type 0
+IsTakenReply files order fronts taken reply = IsOutOfMemory reply
+    ⊎ (((why : Unfit) × IsUndescribed order taken why × IsUnfitReply files order why reply)
+    ⊎ ((given : List Text) × AreGiven order taken given × (IsAnswerReply order fronts given reply
+    ⊎ (IsDeniedReply files order given reply ⊎ IsDeniedCorner files order given reply))))
 
 -- The last file begins as the text of a schedule does.
 abbrev pub has_schedule : List Text → Bool
@@ -556,18 +533,20 @@ read_as order fronts = record {
     command = command_as order.call.aspect order.call.command fronts;
     aspect = order.call.aspect;
     of_library = order.call.of_library;
+    gates = order.call.gates;
+    clamp = order.call.clamp;
     files = order.call.files;
     certificate = order.call.certificate;
   };
   manner = order.manner;
 }
 
--- The reply to a call of mintc over the files of a shelf: a file can't be read, or the answer in its form, of the first
--- bytes of the files, one more than a file may have.
+-- The reply to a call of mintc over the files of a shelf: a file can't be read, or the answer in its form, of what is
+-- taken of the first bytes of the files, one more than a file may have.
 abbrev pub IsCallReply : Option Files → Order → Reply → Type 0
 IsCallReply files order reply = AreUnread order.call.files reply
-    ⊎ ((fronts : List Text) × AreFronts files (MOST_BYTES + 1) order.call.files fronts
-    × IsFrontsReply files (read_as order fronts) fronts reply)
+    ⊎ ((fronts : List Text) × (taken : List Text) × AreFronts files (MOST_BYTES + 1) order.call.files fronts
+    × AreTaken order fronts taken × IsTakenReply files (read_as order taken) fronts taken reply)
 
 -- What the words give and a project file are this call.
 pub record IsOrdered (given : Given) (files : Option Files) (order : Order) : Type 0 where

@@ -9,13 +9,13 @@ ghost use Rattle.mintcx_answers.specs.Answers.{IsOnFiles};
 ghost use Rattle.mintcx_answers.specs.Clocks.{job_of};
 ghost use Rattle.mintcx_answers.specs.Halts.{HaltsAt};
 ghost use Rattle.mintcx_answers.specs.Pictures.{job_of as job_for};
-ghost use Rattle.mintcx_run.specs.Replies.{AreClocks, IsAnswered, IsCertified, IsForPeople, IsFrontsAnswer, IsFrontsRefusal};
-ghost use Rattle.mintcx_run.specs.Replies.{IsLone, IsPlain, IsRefused, IsRefusedCorner, certified_source};
+ghost use Rattle.mintcx_run.specs.Replies.{AreClocks, IsAnswered, IsCertified, IsForPeople};
+ghost use Rattle.mintcx_run.specs.Replies.{IsLone, IsPlain, IsRefused, certified_source};
 ghost use Rattle.mintcx_run.specs.Replies.{IsPictured, IsToldOf, IsToldPicture, IsUncertified, IsUndrawn, has_one_form};
 ghost use Rattle.mintcx_run.specs.Replies.{is_own, motif_of};
 
-use crate::libraries::describe;
 use crate::orders::Order;
+use crate::unsaid::{ClockText, clock_among, unsaid_text};
 use mintc_command_answers::{Answer, Command, Job, Source, Status, answer_to};
 use mintc_text::{Bytes, Limits, Name, OutOfMemory, Stop};
 use mintcx_answers::{
@@ -132,8 +132,13 @@ fn lone_answer(alloc: Global, order: &Order, view: &View, files: &mut [Bytes]) -
     })
 }
 
-/// What is told of the clocks of a schedule.
-fn told_of(alloc: Global, clocks: Clocks) -> Result<Told, OutOfMemory>
+/// What is told of the clocks of a schedule, with the clock description that they are of.
+fn told_of(
+    alloc: Global,
+    clocks: Clocks,
+    clock: &Option<ClockText>,
+    view: &View,
+) -> Result<Told, OutOfMemory>
     ensures value { IfOk result (IsToldOf clocks) }
     ensures of_command { IfOk result (λ told. IsOfCommand told.status) }
 {
@@ -150,15 +155,12 @@ fn told_of(alloc: Global, clocks: Clocks) -> Result<Told, OutOfMemory>
             is_message: false,
             certificate: None,
         }),
-        Clocks::Unsaid(obstacle) => {
-            let text = format!(in alloc; "error: SDC can't say this schedule: {obstacle}\n")?;
-            Ok(Told {
-                status: Status::Found,
-                text: Bytes::new(text.into_bytes()),
-                is_message: true,
-                certificate: None,
-            })
-        }
+        Clocks::Unsaid(obstacle) => Ok(Told {
+            status: Status::Found,
+            text: unsaid_text(alloc, clock, &obstacle, view)?,
+            is_message: true,
+            certificate: None,
+        }),
     }
 }
 
@@ -179,6 +181,7 @@ fn clocks_answer(
         (StopsAt (IsFirstRefusal large (Command.OfDesign (job_of stated) source) files.old)) }
 {
     let titles = titles_of(alloc, source, names, files)?;
+    let clock = clock_among(alloc, source, names, files)?;
     let asked = Statement {
         source,
         stated,
@@ -186,7 +189,7 @@ fn clocks_answer(
         view,
     };
     let clocks = clocks_text(alloc, &Limits::large(), &asked, files)?;
-    Ok(told_of(alloc, clocks)?)
+    Ok(told_of(alloc, clocks, &clock, view)?)
 }
 
 /// A message that nothing is drawn, and why.
@@ -348,13 +351,14 @@ fn is_own(order: &Order) -> bool
     matches!(order.manner.format, Format::Plain) && !has_one_form(order.call.aspect)
 }
 
-/// The answer to a call in its form, of the first bytes of its files.
-fn answer_of(alloc: Global, order: &Order, files: &mut [Bytes]) -> Result<Told, Halt>
+/// The answer to a call in its form, of the texts that are given.
+pub(crate) fn answer_of(alloc: Global, order: &Order, files: &mut [Bytes]) -> Result<Told, Halt>
     requires count { length files.old ≡ length (roles_of order.now.call.command) }
     requires names { length order.now.call.files ≡ length (roles_of order.now.call.command) }
     requires in_range { IsNumberInRange order.now.call.command }
     requires on_files { IsOnFiles order.now.call.command }
     ensures value { IfOk result (IsAnswered order.now files.old) }
+    ensures of_command { IfOk result (λ told. IsOfCommand told.status) }
     ensures halt { IfErr result (HaltsAt (IsRefused order.now files.old)
         (IsFirstRefused large (corners_of files.old) 1)) }
 {
@@ -362,24 +366,5 @@ fn answer_of(alloc: Global, order: &Order, files: &mut [Bytes]) -> Result<Told, 
         Ok(plain_answer(alloc, order, files)?)
     } else {
         people_answer(alloc, order, files)
-    }
-}
-
-/// The answer to a call, of the first bytes of its files; those of a library are described first.
-pub(crate) fn fronts_answer(alloc: Global, order: &Order, files: &mut [Bytes]) -> Result<Told, Halt>
-    requires count { length files.old ≡ length (roles_of order.now.call.command) }
-    requires names { length order.now.call.files ≡ length (roles_of order.now.call.command) }
-    requires in_range { IsNumberInRange order.now.call.command }
-    requires on_files { IsOnFiles order.now.call.command }
-    requires library { order.now.call.of_library ≡ true → 1 < length order.now.call.files }
-    ensures value { IfOk result (IsFrontsAnswer order.now files.old) }
-    ensures of_command { IfOk result (λ told. IsOfCommand told.status) }
-    ensures halt { IfErr result (HaltsAt (IsFrontsRefusal order.now files.old) (IsRefusedCorner order.now files.old)) }
-{
-    if order.call.of_library {
-        describe(alloc, files)?;
-        answer_of(alloc, order, files)
-    } else {
-        answer_of(alloc, order, files)
     }
 }

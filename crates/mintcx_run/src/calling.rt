@@ -1,25 +1,31 @@
 //! From words to the reply.
-ghost use Rattle.std.specs.Prelude.{◌≡◌, ◌≢◌, ◌<◌, ◌≤◌, ◌+◌, ℕ, true, length, map, string_bytes};
+ghost use Rattle.std.specs.Prelude.{◌≡◌, ◌≢◌, ◌<◌, ◌≤◌, ◌+◌, ◌⊎◌, ℕ, List, true, length, map, string_bytes};
 ghost use Rattle.mintc_text.specs.Outside.{Rose};
 ghost use Rattle.mintc_command.specs.Answers.{MakesAtMost};
 ghost use Rattle.mintc_command_answers.specs.Commands.{IsNumberInRange, roles_of};
 ghost use Rattle.mintc_command_answers.specs.declared.status.Status.TheVariants.{ReadFault, WriteFault};
 ghost use Rattle.mintcx_answers.specs.Answers.{IsOnFiles};
-ghost use Rattle.mintcx_run.specs.Replies.{IsCallReply, IsGivenReply, IsPlaced, IsReply, beside_of, command_as};
-ghost use Rattle.mintcx_run.specs.Replies.{has_schedule, place_of, read_as, takes_schedules, told_place};
+ghost use Rattle.mintcx_translation.specs.Calls.{cells_place};
+ghost use Rattle.mintcx_run.specs.Replies.{IsAnswerReply, IsCallReply, IsDeniedCorner, IsDeniedReply, IsGivenReply};
+ghost use Rattle.mintcx_run.specs.Replies.{IsOutOfMemory, IsPlaced, IsReply, IsTakenReply, IsUnfitReply, beside_of};
+ghost use Rattle.mintcx_run.specs.Replies.{command_as, has_schedule, place_of, read_as, takes_schedules, told_place};
+ghost use Rattle.mintcx_run.specs.Warned.{AreClampsTold};
 
-use crate::answers::{Told, fronts_answer};
+use crate::answers::{Told, answer_of};
+use crate::libraries::describe;
 use crate::orders::{Order, order_for};
 use crate::projects::given_of;
 use crate::reading::read_files;
-use crate::refusals::{refused, refused_corner};
+use crate::refusals::{gate_reply, refused, refused_corner};
 use crate::reply::{Beside, Place, Reply};
-use crate::warned::warnings_for;
+use crate::taking::take_files;
+use crate::warned::{all_warnings, clamps_for};
 use mintc_command_answers::{Command, Job};
 use mintc_text::{Bytes, Name, Shelf};
 use mintcx_answers::Halt;
+use mintcx_clock_cells::Unfit;
 use mintcx_requests::{Given, Manner};
-use mintcx_translation::{Aspect, Call};
+use mintcx_translation::{Aspect, Call, cells_place};
 use std::alloc::Global;
 
 /// Where an answer goes.
@@ -125,12 +131,125 @@ fn read_as(order: Order, files: &[Bytes]) -> Order
     }
 }
 
+/// The reply to an order of the texts that are given, and of the warnings of delays below 0.
+fn given_files_reply<S: Shelf>(
+    alloc: Global,
+    order: Order,
+    mut files: Vec<Bytes>,
+    clamps: Bytes,
+    shelf: &mut S,
+) -> Reply
+    requires count { length order.call.files ≡ length (roles_of order.call.command) }
+    requires files { length files.items ≡ length (roles_of order.call.command) }
+    requires in_range { IsNumberInRange order.call.command }
+    requires on_files { IsOnFiles order.call.command }
+    ensures reply { (fronts : List (List ℕ)) → AreClampsTold order fronts clamps →
+        IsOutOfMemory result ⊎ (IsAnswerReply order fronts files.items result
+        ⊎ (IsDeniedReply (S.files shelf.old) order files.items result
+        ⊎ IsDeniedCorner (S.files shelf.old) order files.items result)) }
+    ensures no_fault { result.status ≢ WriteFault }
+    ensures no_read { result.status ≢ ReadFault }
+    ensures same { S.files shelf.new ≡ S.files shelf.old }
+    ensures later { S.faults shelf.old ≤ S.faults shelf.new }
+    ensures reads { MakesAtMost 2 (S.calls shelf.old) (S.calls shelf.new) }
+{
+    let warnings = all_warnings(alloc, &order, clamps, files.as_slice());
+    match answer_of(alloc, &order, files.as_mut_slice()) {
+        Ok(told) => placed(order, told, warnings),
+        Err(Halt::Refused(refusal)) => refused(alloc, &order, &refusal, shelf),
+        Err(Halt::Corner { corner, own }) => refused_corner(alloc, &order, corner, &own, shelf),
+        Err(Halt::OutOfMemory) => Reply::out_of_memory(alloc),
+    }
+}
+
+/// The reply to an order whose library has no description.
+fn unfit_reply<S: Shelf>(alloc: Global, order: &Order, why: &Unfit, shelf: &mut S) -> Reply
+    requires in_range { IsNumberInRange order.now.call.command }
+    requires names { length order.now.call.files ≡ length (roles_of order.now.call.command) }
+    ensures reply { IsUnfitReply (S.files shelf.old) order.now why.now result }
+    ensures no_fault { result.status ≢ WriteFault }
+    ensures no_read { result.status ≢ ReadFault }
+    ensures same { S.files shelf.new ≡ S.files shelf.old }
+    ensures later { S.faults shelf.old ≤ S.faults shelf.new }
+    ensures reads { MakesAtMost 2 (S.calls shelf.old) (S.calls shelf.new) }
+{
+    match why {
+        Unfit::Refused(refusal) => refused(alloc, order, refusal, shelf),
+        Unfit::Unknown { at } => gate_reply(alloc, order, *at, "names no cell of the library"),
+        Unfit::Unusable { at } => gate_reply(
+            alloc,
+            order,
+            *at,
+            "names no gate of one input and one output, which follows or inverts it",
+        ),
+        Unfit::OutOfMemory => Reply::out_of_memory(alloc),
+    }
+}
+
+/// The reply to an order whose library is described, of what is taken of its files, and of the warnings of delays below
+/// 0.
+fn described_reply<S: Shelf>(
+    alloc: Global,
+    order: Order,
+    mut files: Vec<Bytes>,
+    clamps: Bytes,
+    shelf: &mut S,
+) -> Reply
+    requires count { length order.call.files ≡ length (roles_of order.call.command) }
+    requires files { length files.items ≡ length (roles_of order.call.command) }
+    requires in_range { IsNumberInRange order.call.command }
+    requires on_files { IsOnFiles order.call.command }
+    requires described { order.call.of_library ≡ true }
+    requires library { cells_place order.call.command < length order.call.files }
+    ensures reply { (fronts : List (List ℕ)) → AreClampsTold order fronts clamps →
+        IsTakenReply (S.files shelf.old) order fronts files.items result }
+    ensures no_fault { result.status ≢ WriteFault }
+    ensures no_read { result.status ≢ ReadFault }
+    ensures same { S.files shelf.new ≡ S.files shelf.old }
+    ensures later { S.faults shelf.old ≤ S.faults shelf.new }
+    ensures reads { MakesAtMost 2 (S.calls shelf.old) (S.calls shelf.new) }
+{
+    let at = cells_place(order.call.command);
+    match describe(alloc, at, order.call.gates.items(), files.as_mut_slice()) {
+        Ok(()) => given_files_reply(alloc, order, files, clamps, shelf),
+        Err(why) => unfit_reply(alloc, &order, &why, shelf),
+    }
+}
+
+/// The reply to an order, of what is taken of its files, and of the warnings of delays below 0.
+fn taken_reply<S: Shelf>(
+    alloc: Global,
+    order: Order,
+    files: Vec<Bytes>,
+    clamps: Bytes,
+    shelf: &mut S,
+) -> Reply
+    requires count { length order.call.files ≡ length (roles_of order.call.command) }
+    requires files { length files.items ≡ length (roles_of order.call.command) }
+    requires in_range { IsNumberInRange order.call.command }
+    requires on_files { IsOnFiles order.call.command }
+    requires library { order.call.of_library ≡ true → cells_place order.call.command < length order.call.files }
+    ensures reply { (fronts : List (List ℕ)) → AreClampsTold order fronts clamps →
+        IsTakenReply (S.files shelf.old) order fronts files.items result }
+    ensures no_fault { result.status ≢ WriteFault }
+    ensures no_read { result.status ≢ ReadFault }
+    ensures same { S.files shelf.new ≡ S.files shelf.old }
+    ensures later { S.faults shelf.old ≤ S.faults shelf.new }
+    ensures reads { MakesAtMost 2 (S.calls shelf.old) (S.calls shelf.new) }
+{
+    if order.call.of_library {
+        described_reply(alloc, order, files, clamps, shelf)
+    } else {
+        given_files_reply(alloc, order, files, clamps, shelf)
+    }
+}
+
 /// The reply to a call, over a shelf.
 fn call_reply<S: Shelf>(alloc: Global, order: Order, shelf: &mut S) -> Reply
     requires count { length order.call.files ≡ length (roles_of order.call.command) }
     requires in_range { IsNumberInRange order.call.command }
     requires on_files { IsOnFiles order.call.command }
-    requires library { order.call.of_library ≡ true → 1 < length order.call.files }
+    requires library { order.call.of_library ≡ true → cells_place order.call.command < length order.call.files }
     ensures reply { IsCallReply (S.files shelf.old) order result }
     ensures no_fault { result.status ≢ WriteFault }
     ensures same { S.files shelf.new ≡ S.files shelf.old }
@@ -142,13 +261,13 @@ fn call_reply<S: Shelf>(alloc: Global, order: Order, shelf: &mut S) -> Reply
         Ok(files) => files,
         Err(reply) => return reply,
     };
-    let order = read_as(order, files.as_slice());
-    let warnings = warnings_for(alloc, &order, files.as_slice());
-    match fronts_answer(alloc, &order, files.as_mut_slice()) {
-        Ok(told) => placed(order, told, warnings),
-        Err(Halt::Refused(refusal)) => refused(alloc, &order, &refusal, shelf),
-        Err(Halt::Corner { corner, own }) => refused_corner(alloc, &order, corner, &own, shelf),
-        Err(Halt::OutOfMemory) => Reply::out_of_memory(alloc),
+    let clamps = clamps_for(alloc, &order, files.as_slice());
+    match take_files(alloc, &order, files.as_mut_slice()) {
+        Ok(()) => {
+            let order = read_as(order, files.as_slice());
+            taken_reply(alloc, order, files, clamps, shelf)
+        }
+        Err(_) => Reply::out_of_memory(alloc),
     }
 }
 

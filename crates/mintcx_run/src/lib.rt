@@ -22,6 +22,8 @@ mod projects;
 mod reading;
 mod refusals;
 mod reply;
+mod taking;
+mod unsaid;
 mod warned;
 
 pub use adapters::OutputFolder;

@@ -1,34 +1,52 @@
-//! Corners of a library, which are those of the description of its cells.
-ghost use Rattle.std.specs.Prelude.{◌≡◌, ◌≤◌, ◌<◌, length, IfErr, IfOk};
+//! Cells of a library in a description's place.
+ghost use Rattle.std.specs.Prelude.{◌≡◌, ◌<◌, length, IfErr, IfOk};
 ghost use Rattle.mintc_command_answers.specs.Sources.{file_at};
-ghost use Rattle.mintc_text.specs.Stops.{StopsAt};
-ghost use Rattle.mintcx_run.specs.Replies.{AreDescribed, IsDescriptionOf, IsLibraryRefusal};
+ghost use Rattle.mintcx_clock_cells.specs.Clocks.{HasClockCells};
+ghost use Rattle.mintcx_run.specs.Libraries.{AreDescribed, IsDescriptionOf, IsUnfitLibrary};
 
 use liberty2toml_command::toml_form;
-use mintc_liberty::read_liberty;
+use mintc_cells::Cells;
 use mintc_text::limits::MOST_BYTES;
-use mintc_text::{Bytes, Refusal, Role, Stop};
+use mintc_text::{Bytes, Name, OutOfMemory, Refusal, Role};
+use mintcx_clock_cells::{Unfit, clock_cells};
 use std::alloc::Global;
 
-/// The description of the cells of a library, or why its text is refused.
-fn description_of(alloc: Global, text: &[u8]) -> Result<Bytes, Stop>
-    ensures value { IfOk result (IsDescriptionOf text.now) }
-    ensures stop { IfErr result (StopsAt (IsLibraryRefusal text.now)) }
+/// The cells of a library, with gates that carry the clock, or why there are none.
+fn cells_of(alloc: Global, text: &[u8], gates: &[Name]) -> Result<Cells, Unfit>
+    ensures cells { IfOk result (HasClockCells text.now gates.now) }
+    ensures unfit { IfErr result (IsUnfitLibrary text.now gates.now) }
 {
     if text.len() > MOST_BYTES {
-        return Err(Stop::Refused(Refusal::TooLong { role: Role::Cells }));
+        return Err(Unfit::Refused(Refusal::TooLong { role: Role::Cells }));
     }
-    let cells = read_liberty(alloc, text)?;
-    Ok(Bytes::new(toml_form(alloc, &cells)?))
+    clock_cells(alloc, text, gates)
 }
 
-/// Puts the description of its cells in the place of a library, which is the second of the files of corners.
-pub(crate) fn describe(alloc: Global, files: &mut [Bytes]) -> Result<(), Stop>
-    requires { 1 < length files.old }
-    ensures value { IfOk result (λ done. AreDescribed files.old files.new) }
-    ensures count { length files.new ≡ length files.old }
-    ensures stop { IfErr result (StopsAt (IsLibraryRefusal (file_at files.old 1))) }
+/// The description of the cells of a library, with gates that carry the clock, or why there is none.
+fn description_of(alloc: Global, text: &[u8], gates: &[Name]) -> Result<Bytes, Unfit>
+    ensures value { IfOk result (IsDescriptionOf text.now gates.now) }
+    ensures unfit { IfErr result (IsUnfitLibrary text.now gates.now) }
 {
-    files[1] = description_of(alloc, files[1].items())?;
+    let cells = cells_of(alloc, text, gates)?;
+    match toml_form(alloc, &cells) {
+        Ok(text) => Ok(Bytes::new(text)),
+        Err(_) => Err(Unfit::OutOfMemory),
+    }
+}
+
+/// Puts the description of its cells in the place of a library, which is the file of this number, with gates that carry
+/// the clock.
+pub(crate) fn describe(
+    alloc: Global,
+    at: usize,
+    gates: &[Name],
+    files: &mut [Bytes],
+) -> Result<(), Unfit>
+    requires { at < length files.old }
+    ensures value { IfOk result (λ done. AreDescribed at gates.now files.old files.new) }
+    ensures count { length files.new ≡ length files.old }
+    ensures unfit { IfErr result (IsUnfitLibrary (file_at files.old at) gates.now) }
+{
+    files[at] = description_of(alloc, files[at].items(), gates)?;
     Ok(())
 }

@@ -3,13 +3,13 @@ ghost use Rattle.std.specs.Prelude.{◌≡◌, ◌≢◌, ◌≤◌, length, IfO
 ghost use Rattle.mintc_text.specs.Outside.{Rose};
 ghost use Rattle.mintc_command.specs.Answers.{MakesAtMost};
 ghost use Rattle.mintc_command_answers.specs.Commands.{IsNumberInRange, roles_of};
-ghost use Rattle.mintcx_run.specs.Replies.{IsCornerReply, IsCornerText, IsRefusalReply, IsRefusalText};
+ghost use Rattle.mintcx_run.specs.Replies.{IsCornerReply, IsCornerText, IsMessage, IsRefusalReply, IsRefusalText};
 ghost use Rattle.mintcx_run.specs.Replies.{IsRefusedFile, IsSaidReply, IsTextOfCorner, IsTextOfRefusal};
 ghost use Rattle.mintcx_run.specs.Replies.{is_object, refusal_place};
 
 use crate::objects::{corner_object, refusal_object};
 use crate::orders::Order;
-use crate::reading::read_file;
+use crate::reading::{read_file, shown};
 use crate::reply::{Place, Reply};
 use mintc_command_answers::Status;
 use mintc_text::{Bytes, OutOfMemory, Refusal, Shelf};
@@ -220,4 +220,20 @@ pub(crate) fn refused_corner<S: Shelf>(
         order,
         said_of_corner(alloc, order, corner, own, file.items(), beside.items()),
     )
+}
+
+/// The reply that a gate of a library, by its number in the list of names, can't be a cell of the clock.
+pub(crate) fn gate_reply(alloc: Global, order: &Order, at: usize, why: &str) -> Reply
+    ensures message { IsMessage Status.Usage result }
+    ensures no_read { result.status ≢ Status.ReadFault }
+    ensures no_write { result.status ≢ Status.WriteFault }
+{
+    let name = match order.call.gates.items().get(at) {
+        Some(name) => shown(name),
+        None => "?",
+    };
+    match format!(in alloc; "'--clock-cell {name}' {why}") {
+        Ok(said) => Reply::message(alloc, Status::Usage, &said),
+        Err(_) => Reply::out_of_memory(alloc),
+    }
 }

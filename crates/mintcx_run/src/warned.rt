@@ -1,16 +1,18 @@
 //! The warnings beside an answer.
-ghost use Rattle.std.specs.Prelude.{◌≡◌, ◌<◌, ◌≤◌, IfSome, length};
+ghost use Rattle.std.specs.Prelude.{◌≡◌, ◌<◌, ◌≤◌, ◌++◌, All, IfOk, IfSome, List, ℕ, length};
 ghost use Rattle.std.specs.Bool.{OnTrue};
-ghost use Rattle.mintc_command_answers.specs.Commands.{roles_of};
+ghost use Rattle.mintc_command_answers.specs.Commands.{IsNumberInRange, roles_of};
 ghost use Rattle.mintcx_warnings_files.specs.Parts.{AreShort};
-ghost use Rattle.mintcx_run.specs.Warned.{AreFilesOf, AreWarned, IsFileOf, IsOfFour, IsWarned};
+ghost use Rattle.mintcx_run.specs.Warned.{AreAllWarned, AreClampsTold, AreFilesOf, AreWarned, IsFileOf, IsOfFour};
+ghost use Rattle.mintcx_run.specs.Warned.{IsSomeFileOf, IsWarned, described};
 
 use crate::orders::Order;
+use crate::taking::are_delays;
 use mintc_command_answers::{Command, Source};
 use mintc_text::limits::MOST_BYTES;
-use mintc_text::{Bytes, Limits, Name};
+use mintc_text::{Bytes, Limits, Lines, Name, OutOfMemory};
 use mintcx_manners::Format;
-use mintcx_warnings_files::{File, Files, warnings_of};
+use mintcx_warnings_files::{CellsForm, File, Files, clamped_warnings, warnings_of};
 use std::alloc::Global;
 
 /// Whether warnings are told: beside an answer that isn't quiet, in each form but mintc's own.
@@ -30,20 +32,31 @@ fn file_of<'a>(names: &'a [Name], files: &'a [Bytes], number: usize) -> File<'a>
     }
 }
 
-/// Whether the cells of a design of four files are a library. None where a command is asked of other files.
-fn cells_are_library(command: Command) -> Option<bool>
-    ensures four { IfSome result (IsOfFour command) }
-    ensures count { IfSome result (λ is_library. 4 ≤ length (roles_of command)) }
+/// The form of a description, which may be made of a library.
+fn described(of_library: bool) -> CellsForm
+    ensures { result ≡ described of_library }
+{
+    if of_library {
+        CellsForm::Made
+    } else {
+        CellsForm::Description
+    }
+}
+
+/// In which form the cells of a design of four files are. None where a command is asked of other files.
+fn form_of(command: Command, of_library: bool) -> Option<CellsForm>
+    ensures four { IfSome result (IsOfFour command of_library) }
+    ensures count { IfSome result (λ form. 4 ≤ length (roles_of command)) }
 {
     match command {
         Command::OfDesign {
             job: _,
             source: Source::Files,
-        } => Some(false),
+        } => Some(described(of_library)),
         Command::OfDesign {
             job: _,
             source: Source::Liberty,
-        } => Some(true),
+        } => Some(CellsForm::Library),
         _ => None,
     }
 }
@@ -54,14 +67,14 @@ fn files_of<'a>(order: &'a Order, files: &'a [Bytes]) -> Option<Files<'a>>
     requires names { length order.now.call.files ≡ length (roles_of order.now.call.command) }
     ensures { IfSome result (AreFilesOf order.now files.now) }
 {
-    let is_library = cells_are_library(order.call.command)?;
+    let form = form_of(order.call.command, order.call.of_library)?;
     let names = order.call.files.items();
     Some(Files {
         netlist: file_of(names, files, 0),
         delays: file_of(names, files, 1),
         cells: file_of(names, files, 2),
         clock: file_of(names, files, 3),
-        is_library,
+        form,
     })
 }
 
@@ -94,9 +107,59 @@ fn told_warnings(alloc: Global, order: &Order, files: &[Bytes]) -> Option<Bytes>
     }
 }
 
-/// The warnings that are told beside the answer to an order, of the first bytes of its files; no byte where there are
-/// none, where they aren't told, and where the files have no answer.
-pub(crate) fn warnings_for(alloc: Global, order: &Order, files: &[Bytes]) -> Bytes
+/// The files of an order that have delays.
+fn delays_of<'a>(
+    alloc: Global,
+    order: &'a Order,
+    files: &'a [Bytes],
+) -> Result<Vec<File<'a>>, OutOfMemory>
+    requires count { length files.now ≡ length (roles_of order.now.call.command) }
+    requires names { length order.now.call.files ≡ length (roles_of order.now.call.command) }
+    requires in_range { IsNumberInRange order.now.call.command }
+    ensures { IfOk result (λ found. All (IsSomeFileOf order.now files.now) found.items) }
+{
+    let roles = order.call.command.roles();
+    let names = order.call.files.items();
+    let mut found = Vec::new(alloc);
+    for at in 0..files.len() {
+        if are_delays(roles[at]) {
+            found.push(file_of(names, files, at))?;
+        }
+    }
+    Ok(found)
+}
+
+/// The warnings of delays below 0 for which 0 is taken, where they are told.
+fn told_clamps(alloc: Global, order: &Order, files: &[Bytes]) -> Result<Bytes, OutOfMemory>
+    requires count { length files.now ≡ length (roles_of order.now.call.command) }
+    requires names { length order.now.call.files ≡ length (roles_of order.now.call.command) }
+    requires in_range { IsNumberInRange order.now.call.command }
+    ensures { IfOk result (AreClampsTold order.now files.now) }
+{
+    if !order.call.clamp || !is_told(order) {
+        return Ok(Bytes::new(Vec::new(alloc)));
+    }
+    let delays = delays_of(alloc, order, files)?;
+    clamped_warnings(alloc, delays.as_slice())
+}
+
+/// The warnings of delays below 0 for which 0 is taken, of the first bytes of the files of an order; no byte where there
+/// are none, and where they aren't told.
+pub(crate) fn clamps_for(alloc: Global, order: &Order, files: &[Bytes]) -> Bytes
+    requires count { length files.now ≡ length (roles_of order.now.call.command) }
+    requires names { length order.now.call.files ≡ length (roles_of order.now.call.command) }
+    requires in_range { IsNumberInRange order.now.call.command }
+    ensures { AreClampsTold order.now files.now result }
+{
+    match told_clamps(alloc, order, files) {
+        Ok(text) => text,
+        Err(_) => Bytes::new(Vec::new(alloc)),
+    }
+}
+
+/// The warnings of what is taken of the files of an order; no byte where there are none, where they aren't told, and
+/// where the files have no answer.
+fn warnings_for(alloc: Global, order: &Order, files: &[Bytes]) -> Bytes
     requires count { length files.now ≡ length (roles_of order.now.call.command) }
     requires names { length order.now.call.files ≡ length (roles_of order.now.call.command) }
     ensures { IsWarned order.now files.now result }
@@ -104,5 +167,30 @@ pub(crate) fn warnings_for(alloc: Global, order: &Order, files: &[Bytes]) -> Byt
     match told_warnings(alloc, order, files) {
         Some(text) => text,
         None => Bytes::new(Vec::new(alloc)),
+    }
+}
+
+/// Two texts, one behind the other.
+fn together(alloc: Global, first: &[u8], second: &[u8]) -> Result<Bytes, OutOfMemory>
+    ensures { IfOk result (λ text. text ≡ first.now ++ second.now) }
+{
+    let mut lines = Lines::new(alloc);
+    lines.put(first)?;
+    lines.put(second)?;
+    Ok(Bytes::new(lines.into_bytes()))
+}
+
+/// The warnings that are told beside the answer to an order, of what is taken of its files, behind those of delays below
+/// 0 in its files as they are.
+pub(crate) fn all_warnings(alloc: Global, order: &Order, clamps: Bytes, files: &[Bytes]) -> Bytes
+    requires count { length files.now ≡ length (roles_of order.now.call.command) }
+    requires names { length order.now.call.files ≡ length (roles_of order.now.call.command) }
+    ensures { (fronts : List (List ℕ)) → AreClampsTold order.now fronts clamps →
+        AreAllWarned order.now fronts files.now result }
+{
+    let others = warnings_for(alloc, order, files);
+    match together(alloc, clamps.items(), others.items()) {
+        Ok(text) => text,
+        Err(_) => clamps,
     }
 }

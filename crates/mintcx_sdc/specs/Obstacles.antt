@@ -1,5 +1,5 @@
 -- What of a clock and a schedule SDC can't say.
-use Rattle.std.specs.Prelude.{ℕ, ◌+◌, ◌==◌, ℤ, pos, ◌-ℤ◌, int_lt, map, Bool, ◌||◌, ◌&&◌, if◌then◌else◌, List, [], ◌∷◌}
+use Rattle.std.specs.Prelude.{ℕ, ◌+◌, ◌==◌, ℤ, pos, ◌+ℤ◌, ◌-ℤ◌, int_lt, map, Bool, ◌||◌, ◌&&◌, if◌then◌else◌, List, [], ◌∷◌}
 use Rattle.std.specs.Prelude.{Option, Some, None, option_map, length, find, slice_index_or}
 use Rattle.std.specs.Option.{option_or}
 use Rattle.std.specs.Ordering.{int_eq}
@@ -9,6 +9,7 @@ use Rattle.mintc_clock.specs.declared.clock.Clock.{Clock}
 use Rattle.mintc_clock.specs.declared.clock.Listed.{Listed}
 use Rattle.mintc_clock.specs.declared.clock.PhaseDef.{PhaseDef}
 use Rattle.mintcx_sdc.specs.declared.obstacles.Obstacle.{Obstacle}
+use Rattle.mintcx_sdc.specs.declared.obstacles.Window.{Window}
 use Rattle.mintcx_sdc.specs.declared.obstacles.Obstacle.TheVariants.{Denominator, NoCycle, PhaseName, PhasePort, Start}
 use Rattle.mintcx_sdc.specs.declared.obstacles.Obstacle.TheVariants.{Width, Levels, Input, Output}
 use Rattle.mintcx_sdc.specs.Clocks.{clock_place, moment, phase_at, start_at, width_at}
@@ -60,10 +61,14 @@ rest_of s high low = s.cycle -ℤ width_at s high -ℤ width_at s low
 abbrev pub is_complement : ℤ → ℤ → Bool
 is_complement late rest = int_eq late (pos 0) && int_eq rest (pos 0)
 
+-- from when to when the phase at a place is active
+abbrev pub window_of : Schedule → ℕ → Window
+window_of s at = record { from = start_at s at; to = start_at s at +ℤ width_at s at }
+
 abbrev pub level_obstacle : Schedule → ℕ → ℕ → Option Obstacle
 level_obstacle s high low = if is_complement (late_by s high low) (rest_of s high low)
     then None
-    else Some (Levels (high + 1) (low + 1) (late_by s high low) (rest_of s high low))
+    else Some (Levels (high + 1) (low + 1) (late_by s high low) (window_of s high) (window_of s low))
 
 -- of the clock of the phase at a place, where it is called after another one
 abbrev pub clock_obstacle : List PhaseDef → Schedule → ℕ → Option Obstacle

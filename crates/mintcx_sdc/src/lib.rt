@@ -18,5 +18,5 @@ mod times;
 
 pub use laws::times_are_exact;
 pub use named::clock_by_names;
-pub use obstacles::{Obstacle, obstacle_of};
+pub use obstacles::{Obstacle, Window, obstacle_of};
 pub use text::{Titles, sdc_text};

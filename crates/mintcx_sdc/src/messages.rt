@@ -1,6 +1,6 @@
 //! What is said of an obstacle.
 
-use crate::obstacles::Obstacle;
+use crate::obstacles::{Obstacle, Window};
 use std::error::Error;
 use std::fmt;
 
@@ -31,12 +31,16 @@ impl fmt::Display for Obstacle {
             Obstacle::Levels {
                 high,
                 low,
-                late,
-                rest,
+                late: _,
+                high_window: Window { from, to },
+                low_window: Window {
+                    from: start,
+                    to: end,
+                },
             } => write!(
                 f,
                 "phases {high} and {low} are on the levels of one port, and aren't each other's complement: \
-                 phase {low} starts {late} fs after phase {high} ends, and both leave {rest} fs of the cycle"
+                 phase {high} is from {from} to {to} fs, and phase {low} from {start} to {end} fs"
             ),
             Obstacle::Input { number } => put_special(f, "listed input", number),
             Obstacle::Output { number } => put_special(f, "listed output", number),

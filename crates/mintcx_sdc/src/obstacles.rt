@@ -6,11 +6,18 @@ ghost use Rattle.mintcx_sdc.specs.Obstacles.{obstacle_in, phase_obstacle, phases
 ghost use Rattle.mintcx_sdc.specs.Obstacles.{is_complement, late_by, output_obstacle, parts_obstacle, ports_obstacle};
 ghost use Rattle.mintcx_sdc.specs.Obstacles.{rest_of, since_end};
 ghost use Rattle.mintcx_sdc.specs.Obstacles.{scale_obstacle, special_port, start_obstacle, times_obstacle};
-ghost use Rattle.mintcx_sdc.specs.Obstacles.{width_obstacle};
+ghost use Rattle.mintcx_sdc.specs.Obstacles.{width_obstacle, window_of};
 
 use crate::clocks::{clock_place, moment, start_at, width_at};
 use mintc_clock::{Clock, Listed, PhaseDef};
 use mintc_timing::Schedule;
+
+/// From when to when a phase is active, in femtoseconds from the cycle's beginning on.
+#[derive(Clone, Copy, Debug, Drop)]
+pub struct Window {
+    pub from: i64,
+    pub to: i64,
+}
 
 /// What of a clock and a schedule SDC can't say. Phases and listed ports are counted from 1, times are femtoseconds.
 #[derive(Clone, Copy, Debug, Drop)]
@@ -39,13 +46,14 @@ pub enum Obstacle {
         phase: usize,
         over: i64,
     },
-    /// Two phases are on the levels of one port, and the one at the low level starts so long after the other ends, or
-    /// both take the cycle less this rest.
+    /// Two phases are on the levels of one port, and the one at the low level isn't active just when the other one isn't:
+    /// it starts so long after that one ends, or ends at another moment.
     Levels {
         high: usize,
         low: usize,
         late: i64,
-        rest: i64,
+        high_window: Window,
+        low_window: Window,
     },
     /// A listed input has such a byte.
     Input {
@@ -191,6 +199,19 @@ fn is_complement(late: i64, rest: i64) -> bool
     late == 0 && rest == 0
 }
 
+/// From when to when the phase at a place is active.
+fn window_of(schedule: &Schedule, at: usize) -> Window
+    requires in_range { IsInRange schedule.now }
+    requires inside { at < length schedule.now.starts }
+    ensures { result ≡ window_of schedule.now at }
+{
+    let from = start_at(schedule, at);
+    Window {
+        from,
+        to: from + width_at(schedule, at),
+    }
+}
+
 /// What is in the way of two phases on the levels of one port.
 fn level_obstacle(schedule: &Schedule, high: usize, low: usize) -> Option<Obstacle>
     requires in_range { IsInRange schedule.now }
@@ -208,7 +229,8 @@ fn level_obstacle(schedule: &Schedule, high: usize, low: usize) -> Option<Obstac
             high: high + 1,
             low: low + 1,
             late,
-            rest,
+            high_window: window_of(schedule, high),
+            low_window: window_of(schedule, low),
         })
     }
 }

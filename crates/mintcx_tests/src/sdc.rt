@@ -122,7 +122,7 @@ const ROWS: &[Row] = &[
         LEVELS,
         "schedule 1\nden 1\ncycle 10\nphases 2\nphase 1 3\nphase 5 4\nend\n",
         "phases 2 and 1 are on the levels of one port, and aren't each other's complement: \
-         phase 1 starts 2 fs after phase 2 ends, and both leave 3 fs of the cycle",
+         phase 2 is from 5 to 9 fs, and phase 1 from 1 to 4 fs",
     ),
     (
         ODD_NAME,

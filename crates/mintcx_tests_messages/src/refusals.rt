@@ -351,7 +351,7 @@ const NEGATIVE: &str = "error[12]: a delay below 0
 5 |  (DELAY (ABSOLUTE (IOPATH A Y (0.060) (-0.018))))))
   |                                        ^^^^^^ -18 fs, at `u2.s.b`
   = why: static timing tools write them where tables are read beyond their ends, mostly at long nets
-  = help: buffer the net
+  = help: buffer the net; or `--clamp-negative`, which takes 0 for it: safe for setups, not for holds
   = note: `refused 12 5`; `mintcx explain 12` says more
 ";
 

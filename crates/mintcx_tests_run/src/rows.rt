@@ -37,6 +37,12 @@ decided by a chain of 2 constraints that takes 100 fs in 1 cycle:
 times in fs
 ||";
 
+/// Its delays with a number below 0.
+const LOW_DELAYS: &str = "(DELAYFILE (SDFVERSION \"3.0\") (DIVIDER /) (TIMESCALE 1ps)
+(CELL (CELLTYPE \"BUF\") (INSTANCE u2/s/b)
+ (DELAY (ABSOLUTE (IOPATH A Y (0.060) (-0.018))))))
+";
+
 /// The certificate of the table that a file takes, where nothing else is said.
 const CERTIFIED: &str = "0|||own.certcertificate 2
 least
@@ -49,8 +55,8 @@ departures 2
 departure 0
 departure 20
 chain 2
-reach 1 0 1 1
 reach 0 1 1 0
+reach 1 0 1 1
 end
 ";
 
@@ -184,7 +190,13 @@ decided by a chain of 2 constraints that takes 100 fs in 1 cycle:
       2  u1.l[0]  100
 
 times in fs
-||";
+|warning: 1 port of the top is in no list: 1 output
+ --> two.v:3:24
+3 | module two(phi1, phi2, y);
+  |                        ^ `y`
+  = why: no time is known there: paths from such inputs and to such outputs are not judged
+  = help: list them in the clock description, as `[[input]]` or `[[output]]` with a phase
+|";
 
 /// The least cycle time of the files with a library.
 const LEAST_OF_LIBRARY: &str = "0|least  cycle 80 fs, 12.500 THz  (two)
@@ -201,7 +213,13 @@ decided by a chain of 2 constraints that takes 80 fs in 1 cycle:
       2  u1.l[0]  80
 
 times in fs
-||";
+|warning: 1 port of the top is in no list: 1 output
+ --> two.v:3:24
+3 | module two(phi1, phi2, y);
+  |                        ^ `y`
+  = why: no time is known there: paths from such inputs and to such outputs are not judged
+  = help: list them in the clock description, as `[[input]]` or `[[output]]` with a phase
+|";
 
 /// The verdict on its certificate.
 const VALID: &str =
@@ -447,6 +465,7 @@ const FILES: Rows = Rows {
     files: &[
         ("two.v", TWO_NETLIST),
         ("two.sdf", TWO_DELAYS),
+        ("low.sdf", LOW_DELAYS),
         ("two.toml", TWO_CELLS),
         ("two.lib", TWO_LIBRARY),
         ("clock.toml", TWO_CLOCK),
@@ -491,7 +510,73 @@ error[1]: this statement isn't structural Verilog
         ),
         (
             "mintcx optimise --netlist two.v --sdf two.sdf --lib two.lib --clock-cell X --clock clock.toml",
-            "3||error: '--clock-cell' isn't there yet; liberty2toml writes cells to be edited\n|",
+            "3||error: '--clock-cell X' names no cell of the library\n|",
+        ),
+        (
+            "mintcx schedule --netlist two.v --sdf low.sdf --cells two.toml --clock clock.toml --clamp-negative",
+            "0|schedule 1
+den 1
+cycle 80
+phases 2
+phase 0 10
+phase 10 10
+end
+|warning: 1 delay of 1 number below 0 is taken as 0
+ --> low.sdf:3:40
+3 |  (DELAY (ABSOLUTE (IOPATH A Y (0.060) (-0.018))))))
+  |                                        ^^^^^^ the first, at `u2.s.b`
+  = why: the least is -18 fs, at `u2.s.b`; a cycle found so is safe for setups, holds may be told too well
+  = help: buffer the nets (abc: buffer,-N,8) and write the delays anew
+warning: 1 port of the top is in no list: 1 output
+ --> two.v:3:24
+3 | module two(phi1, phi2, y);
+  |                        ^ `y`
+  = why: no time is known there: paths from such inputs and to such outputs are not judged
+  = help: list them in the clock description, as `[[input]]` or `[[output]]` with a phase
+|",
+        ),
+        (
+            "mintcx schedule --netlist two.v --sdf two.sdf --lib two.lib --clock-cell BUF --clock clock.toml",
+            "0|schedule 1
+den 1
+cycle 0
+phases 2
+phase 0 0
+phase 0 0
+end
+|warning: clock cell `BUF` leads to data: 2 paths of it are left out
+ --> two.lib
+ = why: its output `u2.s.z` enters pin D of `u1.l[0]`
+ = help: keep the cells of the clock out of the data: dont_use in the library that abc gets
+warning: 1 port of the top is in no list: 1 output
+ --> two.v:3:24
+3 | module two(phi1, phi2, y);
+  |                        ^ `y`
+  = why: no time is known there: paths from such inputs and to such outputs are not judged
+  = help: list them in the clock description, as `[[input]]` or `[[output]]` with a phase
+|",
+        ),
+        (
+            "mintcx corners --netlist two.v --sdf low.sdf --sdf two.sdf --cells two.toml --clock clock.toml --format plain --clamp-negative",
+            "0|corners 1
+least
+den 1
+cycle 100
+phases 2
+phase 0 10
+phase 10 30
+corners 2
+departures 2
+departure 0
+departure 0
+departures 2
+departure 0
+departure 20
+chain 2
+reach 2 0 1 11 22 6 7 9 23 10 8 3 12 14 24
+reach 2 1 0 11 25 16 17 19 26 20 18 13 2 4 21
+end
+||",
         ),
     ],
 };

@@ -37,6 +37,16 @@ abbrev pub cells_file : Cells → Text
 cells_file (cells.Description file) = file
 cells_file (cells.Library file gates) = file
 
+-- the gates of a library that carry the clock alone
+abbrev pub gates_in : Cells → List Text
+gates_in (cells.Description file) = []
+gates_in (cells.Library file gates) = gates
+
+-- the same of a design
+abbrev pub gates_of : Design → List Text
+gates_of (design.Table table) = []
+gates_of (design.Files netlist delays kind clock) = gates_in kind
+
 -- the files of a design, in mintc's order: of `corners` the delays come last
 abbrev pub design_files : Bool → Design → List Text
 design_files for_corners (design.Table table) = table ∷ []
@@ -103,15 +113,15 @@ aspect_of (task.Sdc file) = aspect.Clocks
 aspect_of (task.Draw file histogram) = aspect.Picture
 aspect_of what = aspect.Whole
 
--- the source of a design with these cells
-abbrev pub source_of : Cells → Result Source Gap
-source_of (cells.Description file) = Ok source.Files
-source_of (cells.Library file gates) = if is_empty gates then Ok source.Liberty else Err gap.ClockCells
+-- the source of a design with these cells: a library with gates that carry the clock is described
+abbrev pub source_of : Cells → Source
+source_of (cells.Description file) = source.Files
+source_of (cells.Library file gates) = if is_empty gates then source.Liberty else source.Files
 
 -- the command of a job on a design
-abbrev pub job_on : Job → Design → Result Command Gap
-job_on work (design.Table table) = Ok (OfDesign work source.Table)
-job_on work (design.Files netlist delays kind clock) = and_then (source_of kind) (λ from. Ok (OfDesign work from))
+abbrev pub job_on : Job → Design → Command
+job_on work (design.Table table) = OfDesign work source.Table
+job_on work (design.Files netlist delays kind clock) = OfDesign work (source_of kind)
 
 -- the command of so many corners
 abbrev pub corners_with : ℕ → Result Command Gap
@@ -120,18 +130,32 @@ corners_with count = if nat_le 2 count && nat_le count 4 then Ok (Corners count)
 -- the command of a design with several delay files
 abbrev pub corners_on : Design → Result Command Gap
 corners_on (design.Table table) = Err gap.Misfit
-corners_on (design.Files netlist delays kind clock) =
-    and_then (source_of kind) (λ from. corners_with (length delays))
+corners_on (design.Files netlist delays kind clock) = corners_with (length delays)
 
--- the cells of corners are those of a library
+-- the cells of a design are those of a library
+abbrev pub has_library : Design → Bool
+has_library (design.Files netlist delays (cells.Library file gates) clock) = true
+has_library files = false
+
+-- the command is asked of a description of cells
+abbrev pub takes_description : Command → Bool
+takes_description (OfDesign work source.Files) = true
+takes_description (Corners count) = true
+takes_description command = false
+
+-- the cells of a library are described for the command
 abbrev pub of_library : Command → Design → Bool
-of_library (Corners count) (design.Files netlist delays (cells.Library file gates) clock) = true
-of_library command files = false
+of_library command files = takes_description command && has_library files
+
+-- the number of the file of the cells among those of a command that is asked of a description, counted from 0
+abbrev pub cells_place : Command → ℕ
+cells_place (Corners count) = 1
+cells_place command = 2
 
 -- the command of a task on a design
 abbrev pub command_for : Task → Design → Result Command Gap
 command_for what files =
-    if is_corners what then corners_on files else and_then (job_of what) (λ work. job_on work files)
+    if is_corners what then corners_on files else and_then (job_of what) (λ work. Ok (job_on work files))
 
 -- the command names so many files
 abbrev pub is_fitting : Command → ℕ → Bool
@@ -172,10 +196,6 @@ form_gap format.Csv what = if has_data what then None else Some gap.Csv
 form_gap format.Text what = None
 form_gap format.Plain what = plain_gap (is_certified what) (aspect_of what)
 
--- that, or a clamp of delays
-abbrev pub form_of : Format → Bool → Task → Option Gap
-form_of form clamp what = if clamp then Some gap.Clamp else form_gap form what
-
 -- the rows of a task
 abbrev pub rows_of : Task → Aspect
 rows_of (task.Optimise certificate (Some cycle)) = aspect.CycleRows cycle
@@ -197,19 +217,21 @@ abbrev pub fitting : Call → Result Call Gap
 fitting call = if is_fitting call.command (length call.files) then Ok call else Err gap.Misfit
 
 -- the command of a task on a design, with the names of all its files
-abbrev pub call_on : Option Gap → Aspect → Task → Design → Result Call Gap
-call_on (Some missing) told what files = Err missing
-call_on None told what files = and_then (command_for what files) (λ command. fitting (record {
+abbrev pub call_on : Option Gap → Aspect → Bool → Task → Design → Result Call Gap
+call_on (Some missing) told clamp what files = Err missing
+call_on None told clamp what files = and_then (command_for what files) (λ command. fitting (record {
   command = command;
   aspect = told;
   of_library = of_library command files;
+  gates = gates_of files;
+  clamp = clamp;
   files = files_of what files;
   certificate = certificate_file what;
 }))
 
--- what is asked of mintc, or what of it is not there yet
+-- what is asked of mintc, with 0 for each delay below 0 where that is wanted; or what of it is not there yet
 abbrev pub call_for : Format → Bool → Task → Design → Result Call Gap
-call_for form clamp what files = call_on (form_of form clamp what) (told_in form what) what files
+call_for form clamp what files = call_on (form_gap form what) (told_in form what) clamp what files
 
 -- why a task on a design is no call
 abbrev pub IsNoCall : Result Call Gap → NoCall → Type 0

@@ -1,11 +1,12 @@
 //! What a request asks of mintc.
 ghost use Rattle.std.specs.Prelude.{◌≡◌, ◌≢◌, ◌<◌, ◌++◌, ◌∷◌, [], ℕ, true, length, option_to_list, IfOk, IfErr, Ok};
+ghost use Rattle.std.specs.Prelude.{if◌then◌else◌};
 ghost use Rattle.mintc_command_answers.specs.Commands.{IsNumberInRange, roles_of};
 ghost use Rattle.mintcx_translation.specs.Calls.{IsNoCall, aspect_of, call_for, cells_file, certificate_file};
-ghost use Rattle.mintcx_translation.specs.Calls.{command_for, corners_on, design_files, is_certified};
-ghost use Rattle.mintcx_translation.specs.Calls.{form_gap, form_of, has_data, is_corners, is_fitting};
-ghost use Rattle.mintcx_translation.specs.Calls.{job_of, job_on, object_of, of_library};
-ghost use Rattle.mintcx_translation.specs.Calls.{own_file, plain_gap, rows_of, source_of, told_in};
+ghost use Rattle.mintcx_translation.specs.Calls.{cells_place, command_for, corners_on, design_files, is_certified};
+ghost use Rattle.mintcx_translation.specs.Calls.{form_gap, gates_in, gates_of, has_data, has_library, is_corners};
+ghost use Rattle.mintcx_translation.specs.Calls.{is_fitting, job_of, job_on, object_of};
+ghost use Rattle.mintcx_translation.specs.Calls.{own_file, plain_gap, rows_of, source_of, takes_description, told_in};
 
 use mintc_command_answers::{Command, Job, Source};
 use mintc_text::{Name, Names, OutOfMemory};
@@ -43,13 +44,16 @@ pub enum Aspect {
 }
 
 /// A command of mintc, what of it is told, and the names of its files, in their order. Where `of_library` is set, the
-/// file of the cells of `corners` is a Liberty library, and the command is asked of its description. Where
-/// `certificate` names a file, the certificate of `optimise` is written to it.
+/// file of the cells is a Liberty library, and the command is asked of a description of its cells, of which these gates
+/// carry the clock alone. Where `clamp` is set, 0 is taken for each delay below 0. Where `certificate` names a file, the
+/// certificate of `optimise` is written to it.
 #[derive(Debug, Drop)]
 pub struct Call {
     pub command: Command,
     pub aspect: Aspect,
     pub of_library: bool,
+    pub gates: Names,
+    pub clamp: bool,
     pub files: Names,
     pub certificate: Option<Name>,
 }
@@ -61,14 +65,10 @@ pub enum Gap {
     Json,
     /// The form of the answer.
     Csv,
-    /// Delays below 0 that are taken as 0.
-    Clamp,
     /// mintc's own text of a cycle time other than the least.
     Cycle,
     /// A file for a certificate beside mintc's own text, which is the certificate.
     Certificate,
-    /// Gates of a library that carry the clock alone.
-    ClockCells,
     /// mintc's own text of pairs counted by their slack.
     Histogram,
     /// The files aren't as many as the command takes; no request of words has it.
@@ -106,14 +106,35 @@ impl From<OutOfMemory> for NoCall {
     }
 }
 
+/// What the cells are read from, and the gates of a library that carry the clock alone.
+#[derive(Drop)]
+struct CellsFile {
+    file: Name,
+    gates: Names,
+}
+
 /// What the cells are read from.
-fn cells_file(cells: Cells) -> Name
-    ensures { result ≡ cells_file cells }
+fn cells_file(alloc: Global, cells: Cells) -> CellsFile
+    ensures file { result.file ≡ cells_file cells }
+    ensures gates { result.gates ≡ gates_in cells }
 {
     match cells {
-        Cells::Description(file) => file,
-        Cells::Library { file, .. } => file,
+        Cells::Description(file) => CellsFile {
+            file,
+            gates: Names::new(Vec::new(alloc)),
+        },
+        Cells::Library { file, clock_cells } => CellsFile {
+            file,
+            gates: clock_cells,
+        },
     }
+}
+
+/// The files of a design, in mintc's order, and the gates of its library that carry the clock alone.
+#[derive(Drop)]
+struct Sources {
+    files: Vec<Name>,
+    gates: Names,
 }
 
 /// The files of a design with its delays, in the order of `corners`.
@@ -148,24 +169,45 @@ fn lone_files(
     Ok(files)
 }
 
-/// The files of a design, in mintc's order.
-fn design_files(alloc: Global, for_corners: bool, design: Design) -> Result<Vec<Name>, OutOfMemory>
-    ensures { IfOk result (λ files. files.items ≡ design_files for_corners design) }
+/// The files of a design with its delays, in mintc's order.
+fn all_files(
+    alloc: Global,
+    for_corners: bool,
+    netlist: Name,
+    delays: Names,
+    cells: Name,
+    clock: Name,
+) -> Result<Vec<Name>, OutOfMemory>
+    ensures { IfOk result (λ files. files.items ≡ if for_corners
+        then (netlist ∷ cells ∷ clock ∷ []) ++ delays
+        else ((netlist ∷ []) ++ delays) ++ (cells ∷ clock ∷ [])) }
+{
+    if for_corners {
+        corners_files(alloc, netlist, delays, cells, clock)
+    } else {
+        lone_files(alloc, netlist, delays, cells, clock)
+    }
+}
+
+/// The files of a design, in mintc's order, and the gates of its library that carry the clock alone.
+fn design_files(alloc: Global, for_corners: bool, design: Design) -> Result<Sources, OutOfMemory>
+    ensures files { IfOk result (λ sources. sources.files.items ≡ design_files for_corners design) }
+    ensures gates { IfOk result (λ sources. sources.gates ≡ gates_of design) }
 {
     match design {
-        Design::Table(table) => Ok(vec![in alloc; table]?),
+        Design::Table(table) => Ok(Sources {
+            files: vec![in alloc; table]?,
+            gates: Names::new(Vec::new(alloc)),
+        }),
         Design::Files {
             netlist,
             delays,
             cells,
             clock,
         } => {
-            let cells = cells_file(cells);
-            if for_corners {
-                corners_files(alloc, netlist, delays, cells, clock)
-            } else {
-                lone_files(alloc, netlist, delays, cells, clock)
-            }
+            let CellsFile { file, gates } = cells_file(alloc, cells);
+            let files = all_files(alloc, for_corners, netlist, delays, file, clock)?;
+            Ok(Sources { files, gates })
         }
     }
 }
@@ -223,16 +265,10 @@ fn beside_of(task: Task) -> Beside
     }
 }
 
-/// All files that are read for a task on a design, in mintc's order.
-fn files_of(
-    alloc: Global,
-    for_corners: bool,
-    own: Option<Name>,
-    design: Design,
-) -> Result<Names, OutOfMemory>
-    ensures { IfOk result (λ files. files ≡ design_files for_corners design ++ option_to_list own) }
+/// Some files, and one more behind them, where there is one.
+fn with_own(mut files: Vec<Name>, own: Option<Name>) -> Result<Names, OutOfMemory>
+    ensures { IfOk result (λ names. names ≡ files.items ++ option_to_list own) }
 {
-    let mut files = design_files(alloc, for_corners, design)?;
     if let Some(own) = own {
         files.push(own)?;
     }
@@ -285,41 +321,40 @@ fn aspect_of(task: &Task) -> Aspect
     }
 }
 
-/// The source of a design with these cells.
-fn source_of(cells: &Cells) -> Result<Source, Gap>
+/// The source of a design with these cells: a library with gates that carry the clock is described.
+fn source_of(cells: &Cells) -> Source
     ensures { result ≡ source_of cells.now }
 {
     match cells {
-        Cells::Description(_) => Ok(Source::Files),
+        Cells::Description(_) => Source::Files,
         Cells::Library { clock_cells, .. } => {
             if clock_cells.items().is_empty() {
-                Ok(Source::Liberty)
+                Source::Liberty
             } else {
-                Err(Gap::ClockCells)
+                Source::Files
             }
         }
     }
 }
 
 /// The command of a job on a design.
-fn job_on(job: Job, design: &Design) -> Result<Command, Gap>
+fn job_on(job: Job, design: &Design) -> Command
     ensures { result ≡ job_on job design.now }
 {
     let source = match design {
         Design::Table(_) => Source::Table,
-        Design::Files { cells, .. } => source_of(cells)?,
+        Design::Files { cells, .. } => source_of(cells),
     };
-    Ok(Command::OfDesign { job, source })
+    Command::OfDesign { job, source }
 }
 
 /// The command of corners.
 fn corners_on(design: &Design) -> Result<Command, Gap>
     ensures { result ≡ corners_on design.now }
 {
-    let Design::Files { delays, cells, .. } = design else {
+    let Design::Files { delays, .. } = design else {
         return Err(Gap::Misfit);
     };
-    source_of(cells)?;
     let count = delays.items().len();
     if 2 <= count && count <= 4 {
         Ok(Command::Corners {
@@ -330,19 +365,37 @@ fn corners_on(design: &Design) -> Result<Command, Gap>
     }
 }
 
-/// Whether the cells of corners are those of a library.
-fn of_library(command: Command, design: &Design) -> bool
-    ensures { result ≡ of_library command design.now }
+/// Whether the cells of a design are those of a library.
+fn has_library(design: &Design) -> bool
+    ensures { result ≡ has_library design.now }
 {
-    match (command, design) {
-        (
-            Command::Corners { .. },
-            Design::Files {
-                cells: Cells::Library { .. },
-                ..
-            },
-        ) => true,
-        _ => false,
+    matches!(
+        design,
+        Design::Files {
+            cells: Cells::Library { .. },
+            ..
+        }
+    )
+}
+
+/// Whether a command is asked of a description of cells.
+fn takes_description(command: Command) -> bool
+    ensures { result ≡ takes_description command }
+{
+    match command {
+        Command::OfDesign { source, .. } => matches!(source, Source::Files),
+        Command::Corners { .. } => true,
+        Command::Sample { .. } => false,
+    }
+}
+
+/// The number of the file of the cells among those of a command that is asked of a description.
+pub fn cells_place(command: Command) -> usize
+    ensures { result ≡ cells_place command }
+{
+    match command {
+        Command::Corners { .. } => 1,
+        Command::OfDesign { .. } | Command::Sample { .. } => 2,
     }
 }
 
@@ -354,7 +407,7 @@ fn command_for(task: &Task, design: &Design) -> Result<Command, Gap>
         return corners_on(design);
     }
     let job = job_of(task)?;
-    job_on(job, design)
+    Ok(job_on(job, design))
 }
 
 /// Whether a command names so many files.
@@ -445,7 +498,7 @@ fn plain_gap(certified: bool, aspect: Aspect) -> Option<Gap>
     }
 }
 
-/// What of a form isn't there yet for a task, but for a clamp.
+/// What of a form isn't there yet for a task.
 fn form_gap(format: Format, task: &Task) -> Option<Gap>
     ensures { result ≡ form_gap format task.now }
 {
@@ -463,16 +516,6 @@ fn form_gap(format: Format, task: &Task) -> Option<Gap>
     }
 }
 
-/// What of a form isn't there yet for a task.
-fn form_of(format: Format, clamp: bool, task: &Task) -> Option<Gap>
-    ensures { result ≡ form_of format clamp task.now }
-{
-    if clamp {
-        return Some(Gap::Clamp);
-    }
-    form_gap(format, task)
-}
-
 /// What a task on a design asks of mintc, where its form is there; `clamp` says whether 0 is taken for each delay
 /// below 0.
 pub fn call_of(
@@ -487,22 +530,25 @@ pub fn call_of(
     ensures count { IfOk result (λ call. length call.files ≡ length (roles_of call.command)) }
     ensures in_range { IfOk result (λ call. IsNumberInRange call.command) }
     ensures files { IfOk result (λ call. (number : ℕ) → call.command ≢ Command.Sample number) }
-    ensures library { IfOk result (λ call. call.of_library ≡ true → 1 < length call.files) }
+    ensures library { IfOk result (λ call. call.of_library ≡ true → cells_place call.command < length call.files) }
 {
-    if let Some(gap) = form_of(format, clamp, &task) {
+    if let Some(gap) = form_gap(format, &task) {
         return Err(NoCall::Missing(gap));
     }
     let aspect = told_in(format, &task);
     let command = command_for(&task, &design)?;
-    let of_library = of_library(command, &design);
+    let of_library = takes_description(command) && has_library(&design);
     let for_corners = is_corners(&task);
     let beside = beside_of(task);
-    let files = files_of(alloc, for_corners, beside.own, design)?;
+    let Sources { files, gates } = design_files(alloc, for_corners, design)?;
+    let files = with_own(files, beside.own)?;
     if is_fitting(command, files.items().len()) {
         Ok(Call {
             command,
             aspect,
             of_library,
+            gates,
+            clamp,
             files,
             certificate: beside.certificate,
         })

@@ -7,4 +7,4 @@
 mod calls;
 mod messages;
 
-pub use calls::{Aspect, Call, Gap, NoCall, call_of};
+pub use calls::{Aspect, Call, Gap, NoCall, call_of, cells_place};

@@ -14,13 +14,10 @@ impl Gap {
             Gap::Csv => {
                 "'--format csv' isn't there for 'schedule', 'sdc', 'draw', '--histogram' and '--certificate'"
             }
-            Gap::Clamp => "'--clamp-negative' isn't there yet",
             Gap::Cycle => "'--cycle' has no plain form; '--format text' has one",
             Gap::Certificate => {
                 "'--certificate' goes with '--format text'; '--format plain -o FILE' writes the certificate alone"
             }
-            Gap::ClockCells =>
-                "'--clock-cell' isn't there yet; liberty2toml writes cells to be edited",
             Gap::Histogram => "'--histogram' has no plain form; '--format text' has one",
             Gap::Misfit => "the files aren't as many as the command takes",
         }

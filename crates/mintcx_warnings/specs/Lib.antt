@@ -2,5 +2,6 @@
 pub mod Warnings
 pub mod Latches
 pub mod Outputs
+pub mod Ports
 pub mod Data
 pub mod Clamped

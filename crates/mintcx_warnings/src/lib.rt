@@ -10,6 +10,7 @@ mod clamped;
 mod data;
 mod latches;
 mod outputs;
+mod ports;
 mod said;
 mod writing;
 
@@ -17,5 +18,6 @@ pub use clamped::{Clamped, clamped_text};
 pub use data::{Entered, data_text};
 pub use latches::same_phase_text;
 pub use outputs::{Late, late_text};
+pub use ports::ports_text;
 pub use said::Said;
 pub use writing::Scene;

@@ -1,5 +1,6 @@
 -- Texts that are written one behind the other.
-use Rattle.std.proofs.Common.{◌≡◌, ◌∙◌, ◌+◌, ℕ, zero, suc, List, [], ◌∷◌, ◌++◌, ap, sym, arith, append_assoc, append-nil}
+use Rattle.std.proofs.Common.{◌≡◌, ◌<◌, ◌∙◌, ◌+◌, ℕ, zero, suc, List, [], ◌∷◌, ◌++◌, length, take, get_or, ap, sym, arith, append_assoc, append-nil}
+use Rattle.std.proofs.lemmas.List.{take_more}
 use Rattle.std.specs.List.{AllZip, concat, range_with_len}
 
 -- a relation of two lists with one item more at each end
@@ -32,3 +33,9 @@ text_more R first k number written text now (texts, are, is) same said next =
     let one : range_with_len first (k + 1) ≡ range_with_len first k ++ number ∷ [] =
     ap (λ n. range_with_len first n) next_one ∙ range_from first k ∙ ap (λ n. range_with_len first k ++ n ∷ []) (sym same) in
     (texts ++ text ∷ [], rw one (AllZip-more R (range_with_len first k) texts number text are said), next ∙ ap (λ v. v ++ text) is ∙ sym (concat_more texts text))
+
+-- the text of one item more of a list
+pub item_more : {X : Type 0} (R : X → List ℕ → Type 0) (xs : List X) (i : ℕ) (d : X) (written text now : List ℕ) → i < length xs → (texts : List (List ℕ)) × AllZip R (take i xs) texts × (written ≡ concat texts) →
+    R (get_or xs i d) text → now ≡ written ++ text → (texts : List (List ℕ)) × AllZip R (take (i + 1) xs) texts × (now ≡ concat texts)
+item_more R xs i d written text now below (texts, are, is) said next =
+    (texts ++ text ∷ [], rw (take_more xs i d below) (AllZip-more R (take i xs) texts (get_or xs i d) text are said), next ∙ ap (λ v. v ++ text) is ∙ sym (concat_more texts text))

@@ -1,5 +1,5 @@
 -- What the files of a design say.
-use Rattle.std.specs.Prelude.{◌≤◌, ℕ, Bool, true, false, List, length}
+use Rattle.std.specs.Prelude.{◌≤◌, ℕ, List, length}
 use Rattle.mintc_text.specs.declared.limits.Most.{Most}
 use Rattle.mintc_text.specs.declared.limits.TheConstants.{MOST_BYTES}
 use Rattle.mintc_netlist.specs.declared.module.Netlist.{Netlist}
@@ -8,6 +8,8 @@ use Rattle.mintc_sdf.specs.declared.delays.Delay.{Delay}
 use Rattle.mintc_annotate.specs.Made.{IsAnnotated}
 use Rattle.mintc_timing.specs.Order.{IsTiming}
 use Rattle.mintc_build.specs.FilesDesign.{AreRead, CellText, IsHierarchyOf, described_by, library_by}
+use Rattle.mintcx_warnings_files.specs.declared.files.CellsForm.{CellsForm}
+use Rattle.mintcx_warnings_files.specs.declared.files.CellsForm.TheVariants as form
 use Rattle.mintcx_warnings_files.specs.declared.files.Files.{Files}
 use Rattle.mintcx_warnings_files.specs.declared.parts.Parts.{Parts}
 
@@ -19,12 +21,12 @@ pub record AreShort (files : Files) : Type 0 where
   pub clock : length files.clock.text.now ≤ MOST_BYTES
 
 -- what the file of the cells says: it is a library, or a description
-abbrev pub cells_text : Bool → List ℕ → CellText
-cells_text true text = library_by text
-cells_text false text = described_by text
+abbrev pub cells_text : CellsForm → List ℕ → CellText
+cells_text form.Library text = library_by text
+cells_text described text = described_by text
 
 abbrev pub cells_by : Files → CellText
-cells_by files = cells_text files.is_library files.cells.text.now
+cells_by files = cells_text files.form files.cells.text.now
 
 -- These are the cells, the clock, the hierarchy and the system that the files give: its pairs are those that some path
 -- joins, each once and in order.

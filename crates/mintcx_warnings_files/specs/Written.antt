@@ -11,14 +11,17 @@ use Rattle.mintcx_frame.specs.Names.{phase_name}
 use Rattle.mintcx_places.specs.declared.lines.Range.{Range}
 use Rattle.mintcx_lint_data.specs.declared.data.DataPath.{DataPath}
 use Rattle.mintcx_lint.specs.declared.latches.SamePhase.{SamePhase}
+use Rattle.mintcx_lint.specs.declared.ports.Unlisted.{Unlisted}
 use Rattle.mintcx_lint_data.specs.Data.{AreDataPaths}
 use Rattle.mintcx_lint.specs.Latches.{IsSamePhase, same_pairs}
 use Rattle.mintcx_lint.specs.Outputs.{late_outputs}
+use Rattle.mintcx_lint.specs.Ports.{IsUnlisted, unlisted}
 use Rattle.mintcx_lint.specs.Storage.{storage_count}
 use Rattle.mintcx_warnings.specs.declared.said.Said.{Said}
 use Rattle.mintcx_warnings.specs.Data.{data_said}
 use Rattle.mintcx_warnings.specs.Latches.{same_phase_said}
 use Rattle.mintcx_warnings.specs.Outputs.{late_said}
+use Rattle.mintcx_warnings.specs.Ports.{ports_said}
 use Rattle.mintcx_warnings.specs.Warnings.{IsWarning}
 use Rattle.mintcx_warnings_files.specs.declared.files.File.{File}
 use Rattle.mintcx_warnings_files.specs.declared.files.Files.{Files}
@@ -81,14 +84,23 @@ IsOfCells file p text = (paths : List DataPath) × AreDataPaths p.hierarchy p.ce
     × ((texts : List (List ℕ)) × AllZip (IsOfCell file p paths) (range_with_len 0 (length p.cells)) texts
     × (text ≡ concat texts))
 
--- The warnings of the files of a design: of pairs of latches, of phases, and of cells.
+-- what is written of ports of the top: the warning of those that no phase and no list names, and nothing where there are
+-- none
+abbrev pub IsOfPorts : File → Parts → List ℕ → Type 0
+IsOfPorts netlist p text = ((unlisted p.hierarchy.ports p.clock ≡ []) × (text ≡ []))
+    ⊎ ((found : Unlisted) × IsUnlisted p.hierarchy.ports p.clock found
+    × IsShownIn netlist (ports_said found) text)
+
+-- The warnings of the files of a design: of pairs of latches, of phases, of cells, and of ports.
 pub record AreWarnings (most : Most) (files : Files) (text : List ℕ) : Type 0 where
   pub parts : Parts
   pub are_parts : AreParts most files parts
   pub same : List ℕ
   pub late : List ℕ
   pub entered : List ℕ
+  pub unlisted : List ℕ
   pub is_same : IsOfPairs files.clock parts same
   pub is_late : IsOfPhases files.clock parts late
   pub is_entered : IsOfCells files.cells parts entered
-  pub whole : text ≡ same ++ late ++ entered
+  pub is_unlisted : IsOfPorts files.netlist parts unlisted
+  pub whole : text ≡ same ++ late ++ entered ++ unlisted

@@ -7,7 +7,7 @@ ghost use Rattle.mintcx_warnings.specs.Data.{data_said};
 ghost use Rattle.mintcx_warnings_files.specs.Written.{IsOfCell, IsOfCells, IsShownIn};
 
 use crate::clocked::{before_part, net_behind, paths_from};
-use crate::files::{File, scene};
+use crate::files::{CellsForm, File, scene};
 use crate::parts::Parts;
 use mintc_annotate_resolve::inner_names;
 use mintc_flatten_hierarchy::hierarchies_are_in_shape;
@@ -18,13 +18,13 @@ use mintcx_places::Range;
 use mintcx_warnings::{Entered, data_text};
 use std::alloc::Global;
 
-/// What bits are called, the paths from cells of the clock, and the file of the cells, which may be a library.
+/// What bits are called, the paths from cells of the clock, and the file of the cells, with its form.
 #[derive(Drop)]
 struct Met<'a> {
     names: &'a [Name],
     paths: &'a [DataPath],
     cells: &'a File<'a>,
-    is_library: bool,
+    form: CellsForm,
 }
 
 /// What a bit is called; no byte where there is no such bit.
@@ -55,14 +55,13 @@ fn end_of<'a>(parts: &Parts, names: &'a [Name], path: &DataPath) -> &'a [u8] {
     }
 }
 
-/// Where a cell is described, which is known in a description alone.
+/// Where a cell is described, which is known in a description alone that was not made.
 fn heading_of(met: &Met<'_>, cell: &[u8]) -> Option<Range>
     ensures { IfSome result (λ range. range.from ≤ length met.now.cells.now.text.now) }
 {
-    if met.is_library {
-        None
-    } else {
-        cell_heading(met.cells.text, cell)
+    match met.form {
+        CellsForm::Description => cell_heading(met.cells.text, cell),
+        CellsForm::Library | CellsForm::Made => None,
     }
 }
 
@@ -136,7 +135,7 @@ pub(crate) fn entered_texts(
     alloc: Global,
     parts: &Parts,
     cells: &File<'_>,
-    is_library: bool,
+    form: CellsForm,
 ) -> Result<Bytes, OutOfMemory>
     requires { IsGivenHierarchy parts.now.cells parts.now.hierarchy }
     ensures { IfOk result (IsOfCells cells.now parts.now) }
@@ -147,7 +146,7 @@ pub(crate) fn entered_texts(
         names: names.as_slice(),
         paths: paths.items(),
         cells,
-        is_library,
+        form,
     };
     cell_texts(alloc, parts, &met)
 }

@@ -11,14 +11,25 @@ pub struct File<'a> {
     pub text: &'a [u8],
 }
 
-/// The files of a design. The cells are a description, or a library.
+/// What the cells are read from.
+#[derive(Clone, Copy, Debug, PartialEq, Eq)]
+pub enum CellsForm {
+    /// A description.
+    Description,
+    /// A Liberty library.
+    Library,
+    /// A description that was made of the file of this name: no place in it is shown.
+    Made,
+}
+
+/// The files of a design, and in which form its cells are.
 #[derive(Clone, Copy)]
 pub struct Files<'a> {
     pub netlist: File<'a>,
     pub delays: File<'a>,
     pub cells: File<'a>,
     pub clock: File<'a>,
-    pub is_library: bool,
+    pub form: CellsForm,
 }
 
 /// A place of a file, if one is found.

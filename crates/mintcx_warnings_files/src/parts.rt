@@ -5,7 +5,7 @@ ghost use Rattle.mintc_text.specs.Stops.{StopsAt};
 ghost use Rattle.mintc_flatten_hierarchy.specs.Shape.{IsGivenHierarchy};
 ghost use Rattle.mintcx_warnings_files.specs.Parts.{AreParts, AreShort, cells_by};
 
-use crate::files::Files;
+use crate::files::{CellsForm, Files};
 use mintc_annotate::annotate;
 use mintc_build::system;
 use mintc_cells::{Cells, read_cells};
@@ -13,6 +13,7 @@ use mintc_clock::{Clock, read_clock};
 use mintc_flatten::flatten;
 use mintc_flatten_hierarchy::Hierarchy;
 use mintc_liberty::read_liberty;
+use mintc_netlist::Netlist;
 use mintc_sdf::read_delays;
 use mintc_text::{Limits, Stop};
 use mintc_timing::System;
@@ -26,6 +27,8 @@ pub(crate) struct Parts {
     pub(crate) clock: Clock,
     pub(crate) hierarchy: Hierarchy,
     pub(crate) system: System,
+    /// The number of the statement that begins the top module, counted from 1; 0 where there is none.
+    pub(crate) top: u32,
 }
 
 /// The cells of a description or of a library.
@@ -33,10 +36,21 @@ fn cells_of(alloc: Global, files: &Files<'_>) -> Result<Cells, Stop>
     requires { AreShort files.now }
     ensures { IfOk result (cells_by files.now).Describes }
 {
-    if files.is_library {
+    if matches!(files.form, CellsForm::Library) {
         read_liberty(alloc, files.cells.text)
     } else {
         read_cells(alloc, files.cells.text)
+    }
+}
+
+/// The number of the statement that begins the top module; 0 where there is none.
+fn top_statement(netlist: &Netlist, hierarchy: &Hierarchy) -> u32 {
+    let Some(top) = hierarchy.scopes.items().get(0) else {
+        return 0;
+    };
+    match netlist.modules.items().get(top.module as usize) {
+        Some(module) => module.entry,
+        None => 0,
     }
 }
 
@@ -54,10 +68,12 @@ pub(crate) fn parts_of(alloc: Global, limits: &Limits, files: &Files<'_>) -> Res
     let flat = annotate(alloc, limits, &hierarchy, &cells, &clock, &delays)?;
     let system = system(alloc, limits, flat)?;
     let _flat = system.flat();
+    let top = top_statement(&modules, &hierarchy);
     Ok(Parts {
         cells,
         clock,
         hierarchy,
         system,
+        top,
     })
 }

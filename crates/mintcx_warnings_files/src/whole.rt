@@ -10,17 +10,25 @@ use crate::files::Files;
 use crate::late::late_texts;
 use crate::parts::{Parts, parts_of};
 use crate::same::same_text;
+use crate::unlisted::unlisted_text;
 use mintc_text::{Bytes, Limits, Lines, OutOfMemory, Stop};
 use std::alloc::Global;
 
-/// Three texts, one behind the other.
-fn together(alloc: Global, first: &[u8], second: &[u8], third: &[u8]) -> Result<Bytes, OutOfMemory>
-    ensures { IfOk result (λ text. text ≡ first.now ++ second.now ++ third.now) }
+/// Four texts, one behind the other.
+fn together(
+    alloc: Global,
+    first: &[u8],
+    second: &[u8],
+    third: &[u8],
+    fourth: &[u8],
+) -> Result<Bytes, OutOfMemory>
+    ensures { IfOk result (λ text. text ≡ first.now ++ second.now ++ third.now ++ fourth.now) }
 {
     let mut lines = Lines::new(alloc);
     lines.put(first)?;
     lines.put(second)?;
     lines.put(third)?;
+    lines.put(fourth)?;
     Ok(Bytes::new(lines.into_bytes()))
 }
 
@@ -31,8 +39,15 @@ fn told(alloc: Global, parts: &Parts, files: &Files<'_>) -> Result<Bytes, OutOfM
 {
     let same = same_text(alloc, parts, &files.clock)?;
     let late = late_texts(alloc, parts, &files.clock)?;
-    let entered = entered_texts(alloc, parts, &files.cells, files.is_library)?;
-    together(alloc, same.items(), late.items(), entered.items())
+    let entered = entered_texts(alloc, parts, &files.cells, files.form)?;
+    let unlisted = unlisted_text(alloc, parts, &files.netlist)?;
+    together(
+        alloc,
+        same.items(),
+        late.items(),
+        entered.items(),
+        unlisted.items(),
+    )
 }
 
 /// The warnings of the files of a design, one behind the other; no byte where there are none. The refusal is one of the

@@ -9,8 +9,10 @@ returns c =
       same = told.same;
       late = told.late;
       entered = told.entered;
+      unlisted = told.unlisted;
       is_same = told.is_same;
       is_late = told.is_late;
       is_entered = told.is_entered;
+      is_unlisted = told.is_unlisted;
       whole = told.whole;
     }
