@@ -18,7 +18,7 @@ use Rattle.mintc_checker.specs.declared.labels.TheConstants.{NO_LABELS}
 use Rattle.mintc_checker.specs.declared.course.Course.{Course}
 use Rattle.mintc_checker.specs.declared.course.Places.{Places}
 use Rattle.mintc_checker.specs.declared.course.Step.{Step}
-use Rattle.mintc_checker.specs.Course.{place_at, placed, ArePlaces, AreInside, IsCourse, IsStep}
+use Rattle.mintc_checker.specs.Course.{place_at, placed, ArePlaces, ArePlacesOf, AreInside, IsCourse, IsStep}
 use Rattle.mintc_checker.specs.Labels.{labels_at, label_at, no_labels, AreLabelsOf, IsStart, IsAlong}
 use Rattle.mintc_checker.proofs.Carrying.{carried}
 use Rattle.mintc_checker.proofs.Sizes.{AreLanes-from_labels}
@@ -33,8 +33,8 @@ placed_past : (places : List ℕ) (rows : List Labels) (bit : ℕ) → length pl
 placed_past places rows bit past = get_or_past (placed places rows) bit no_labels (omega (arith, length-placed places rows))
 
 -- the rows are as many as places are given, and one more
-pub AreInside-given : (places : Places) (rows : List Labels) → ArePlaces places → length rows ≡ places.given + 1 → AreInside places.of_bits.items rows
-AreInside-given places rows h count = λ bit. omega (arith, h.below bit)
+pub AreInside_given : (places : Places) (rows : List Labels) → ArePlaces places → length rows ≡ places.given + 1 → AreInside places.of_bits.items rows
+AreInside_given places rows h count = λ bit. omega (arith, h.below bit)
 
 -- What is written at a bit's place is written at this bit alone.
 module _ (places : Places) (h : ArePlaces places) (own row : ℕ) (is : row ≡ place_at places.of_bits.items own) (some : row ≢ 0) (old new : List Labels)
@@ -57,13 +57,13 @@ no_lane : (lane : ℕ) → lane < 8 → lane_at NO_LABELS.lanes lane ≡ None
 no_lane lane low = ap lane_of (get_or-replicate 8 lane ABSENT ABSENT low)
 
 -- Where no labels are, no element has begun.
-pub AreLabelsOf-none : (design : Design) (den : ℤ) (d : List ℤ) (places : Places) (rows : List Labels) → length places.of_bits.items ≡ 2 * length design.elements + length design.inner →
-    ArePlaces places → length rows ≡ places.given + 1 → ((row : ℕ) → row < length rows → labels_at rows row ≡ NO_LABELS) → AreLabelsOf design den d (IsStart 0) (placed places.of_bits.items rows)
-AreLabelsOf-none design den d places rows count h given none = record {
-  count = length-placed places.of_bits.items rows ∙ count;
+pub AreLabelsOf-none : (design : Design) (den : ℤ) (d : List ℤ) (places : Places) (rows : List Labels) → ArePlacesOf design places →
+    length rows ≡ places.given + 1 → ((row : ℕ) → row < length rows → labels_at rows row ≡ NO_LABELS) → AreLabelsOf design den d (IsStart 0) (placed places.of_bits.items rows)
+AreLabelsOf-none design den d places rows h given none = record {
+  count = length-placed places.of_bits.items rows ∙ h.count;
   each = λ bit lane within eight.
       let low : bit < length places.of_bits.items = omega (arith, length-placed places.of_bits.items rows) in
-      let absent : labels_at (placed places.of_bits.items rows) bit ≡ NO_LABELS = placed_at places.of_bits.items rows bit low ∙ none (place_at places.of_bits.items bit) (AreInside-given places rows h given bit) in
+      let absent : labels_at (placed places.of_bits.items rows) bit ≡ NO_LABELS = placed_at places.of_bits.items rows bit low ∙ none (place_at places.of_bits.items bit) (AreInside_given places rows h.apart given bit) in
       rw (absent, no_lane lane eight) (record { attained = tt; bound = λ j path g. let below = g.1.0 in absurd (omega arith) });
 }
 
@@ -91,12 +91,12 @@ pub carried_placed : (design : Design) (den : ℤ) (d : List ℤ) (order : List 
 carried_placed design den d order is_order course h k inside low step is old new others joins labels =
     let bits = course.places.of_bits.items in
     let arc : TimingArc = arc_at design.arcs (get_or order k 0) in
-    let from_in : arc.from < length bits = omega (arith, inside.from, h.count) in
-    let to_in : arc.to < length bits = omega (arith, inside.to, h.count) in
+    let from_in : arc.from < length bits = omega (arith, inside.from, h.places.count) in
+    let to_in : arc.to < length bits = omega (arith, inside.to, h.places.count) in
     let to_old : labels_at (placed bits old) arc.to ≡ labels_at old step.to = placed_own bits old arc.to step.to to_in is.to in
     let to_new : labels_at (placed bits new) arc.to ≡ labels_at new step.to = placed_own bits new arc.to step.to to_in is.to in
     let from_old : labels_at (placed bits old) arc.from ≡ labels_at old step.from = placed_own bits old arc.from step.from from_in is.from in
     carried design den d order is_order k (get_or order k 0) low refl (placed bits old) (placed bits new) (step.max *ℤ den) (length-placed bits new ∙ sym (length-placed bits old))
     (omega (arith, length-placed bits old)) (omega (arith, length-placed bits old)) (ap (λ z. z *ℤ den) is.max)
-    (placed_others course.places h.places arc.to step.to is.to is.ends old new others)
+    (placed_others course.places h.places.apart arc.to step.to is.to is.ends old new others)
     (rw (to_old, to_new, from_old) joins) labels

@@ -22,6 +22,13 @@ ArePlaces-none places none = record {
 abbrev pub StayPlaced : List ℕ → List ℕ → Type 0
 StayPlaced old new = (other : ℕ) → place_at old other ≢ 0 → place_at new other ≡ place_at old other
 
+-- a bit without a place takes none from the others
+pub kept_by_set : (old : List ℕ) (bit given : ℕ) (new : List ℕ) → place_at old bit ≡ 0 → new ≡ set old bit given → StayPlaced old new
+kept_by_set old bit given new none items other some = ⊎_elim
+    (λ (e : other ≡ bit). absurd (some (ap (place_at old) e ∙ none)))
+    (λ ne. ap (λ xs. place_at xs other) items ∙ get_or-set_other old bit other given 0 ne)
+    (cases_eq other bit)
+
 -- a bit without a place gets the next one
 module _ (old new : Places) (bit : ℕ) (h : ArePlaces old) (inside : bit < length old.of_bits.items) (none : place_at old.of_bits.items bit ≡ 0)
     (items : new.of_bits.items ≡ set old.of_bits.items bit (old.given + 1)) (given : new.given ≡ old.given + 1) where
@@ -30,9 +37,6 @@ module _ (old new : Places) (bit : ℕ) (h : ArePlaces old) (inside : bit < leng
 
   given_other : (other : ℕ) → other ≢ bit → place_at new.of_bits.items other ≡ place_at old.of_bits.items other
   given_other other ne = ap (λ xs. place_at xs other) items ∙ get_or-set_other old.of_bits.items bit other (old.given + 1) 0 ne
-
-  pub given_kept : StayPlaced old.of_bits.items new.of_bits.items
-  given_kept other some = ⊎_elim (λ (e : other ≡ bit). absurd (some (ap (place_at old.of_bits.items) e ∙ none))) (λ ne. given_other other ne) (cases_eq other bit)
 
   given_below : (b : ℕ) → place_at new.of_bits.items b ≤ new.given
   given_below b = ⊎_elim

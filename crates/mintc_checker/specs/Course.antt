@@ -44,11 +44,15 @@ pub record AreSteps (arcs : List TimingArc) (order : List ℕ) (k : ℕ) (places
   pub count : length steps ≡ k
   pub each : (i : ℕ) → i < k → IsStep places (arc_at arcs (slice_index_or order i 0)) (step_at steps i)
 
+-- Each bit of the design may have a place of its own, and each output has one.
+pub record ArePlacesOf (design : Design) (places : Places) : Type 0 where
+  pub count : length places.of_bits.items ≡ 2 * length design.elements + length design.inner
+  pub apart : ArePlaces places
+  pub outputs : HaveOutputs (length design.elements) places.of_bits.items
+
 -- The course has a place for each output and each bit that an arc comes to, and a step for each arc of the order.
 pub record IsCourse (design : Design) (order : List ℕ) (course : Course) : Type 0 where
-  pub count : length course.places.of_bits.items ≡ 2 * length design.elements + length design.inner
-  pub places : ArePlaces course.places
-  pub outputs : HaveOutputs (length design.elements) course.places.of_bits.items
+  pub places : ArePlacesOf design course.places
   pub steps : AreSteps design.arcs order (length order) course.places.of_bits.items course.steps.items
 
 -- the labels at the bits, from those at their places

@@ -1,7 +1,7 @@
 //! The arcs of a design in their order, each from place to place. The bits get their places in the order in which the
 //! arcs come to them, so that labels which are carried one after another stand near each other in memory.
 ghost use Rattle.std.specs.Prelude.{◌≡◌, ◌≢◌, ◌+◌, ◌-◌, ◌*◌, ◌^◌, ◌<◌, ◌≤◌, ℕ, length, IfOk, OnOk};
-ghost use Rattle.mintc_timing.specs.Limits.{IsDesign};
+ghost use Rattle.mintc_timing.specs.Limits.{IsDelay};
 ghost use Rattle.mintc_timing.specs.Order.{IsOrder};
 ghost use Rattle.mintc_checker.specs.Course.{place_at, ArePlaces, AreSteps, HaveOutputs, IsCourse, IsStep};
 
@@ -87,6 +87,7 @@ fn meet_outputs(places: &mut Places, flat: &Flat)
 fn step_of(places: &mut Places, arc: TimingArc) -> Step
     requires from { arc.from < length places.old.of_bits.items }
     requires to { arc.to < length places.old.of_bits.items }
+    requires max { IsDelay arc.max }
     requires few { places.old.given < 2 ^ 32 - 2 }
     requires places { ArePlaces places.old }
     ensures places { ArePlaces places.new }

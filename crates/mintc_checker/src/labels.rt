@@ -1,5 +1,5 @@
 //! Labels of phases at all bits: when data comes there at the latest.
-ghost use Rattle.std.specs.Prelude.{◌≡◌, ◌≢◌, ◌+◌, ◌*◌, ◌^◌, ◌<◌, ◌≤◌, ◌+ℤ◌, ◌*ℤ◌, ℕ, length, None, Some, IfOk, All, List};
+ghost use Rattle.std.specs.Prelude.{◌≡◌, ◌≢◌, ◌+◌, ◌*◌, ◌^◌, ◌<◌, ◌≤◌, ◌+ℤ◌, ◌*ℤ◌, ℕ, length, None, Some, IfOk, All};
 ghost use Rattle.std.specs.Prelude.{unsigned_abs};
 ghost use Rattle.std.specs.Int.{int_max};
 ghost use Rattle.mintc_lanes.specs.Lanes.{lane_at, AreJoined, AreLanes};
@@ -8,12 +8,12 @@ ghost use Rattle.mintc_timing.specs.Limits.{IsDesign, IsTime};
 ghost use Rattle.mintc_timing.specs.Order.{IsOrder};
 ghost use Rattle.mintc_timing.specs.Limits.{IsDelay};
 ghost use Rattle.mintc_certificate.specs.Ranges.{IsDeparture};
-ghost use Rattle.mintc_checker.specs.Course.{IsCourse, placed};
+ghost use Rattle.mintc_checker.specs.Course.{AreInside, ArePlacesOf, IsCourse, placed};
 ghost use Rattle.mintc_timing.specs.Design.{element_at};
 ghost use Rattle.mintc_checker.specs.Judged.{AreTimelyLabels};
 ghost use Rattle.mintc_checker.specs.Labels.{AreLabelsOf, IsStart, label_at, labels_at, IsAlong};
 
-use crate::course::{Course, Step, course_of};
+use crate::course::{Course, Places, Step, course_of};
 use crate::departing_design::DepartingDesign;
 use mintc_lanes::{ABSENT, max_plus_row};
 use mintc_text::OutOfMemory;
@@ -53,6 +53,14 @@ impl Model for LabelTable {
 }
 
 impl LabelTable {
+    /// The labels of bits at these places.
+    fn new(places: Vec<u32>, rows: Vec<Labels>) -> LabelTable
+        requires { AreInside places.items rows.items }
+        ensures { result ≡ placed places.items rows.items }
+    {
+        LabelTable { places, rows }
+    }
+
     /// The labels at a bit.
     fn at(&self, bit: usize) -> &Labels
         requires { bit < length self.now }
@@ -119,34 +127,37 @@ fn begin(rows: &mut [Labels], place: usize, lane: usize, time: i64)
 }
 
 /// Begins the lane of an element's phase at its output.
-fn begin_element(rows: &mut [Labels], departing: &DepartingDesign<'_>, course: &Course, number: u32)
-    ghost order: { List ℕ }
+fn begin_element(
+    rows: &mut [Labels],
+    departing: &DepartingDesign<'_>,
+    places: &Places,
+    number: u32,
+)
     requires number { number < length departing.now.flat.now.elements }
-    requires course { IsCourse departing.now.flat.now order course.now }
-    requires places { length rows.old ≡ course.now.places.given + 1 }
+    requires places { ArePlacesOf departing.now.flat.now places.now }
+    requires count { length rows.old ≡ places.now.given + 1 }
     requires labels { AreLabelsOf departing.now.flat.now departing.now.den departing.now.departures.now
-        (IsStart number) (placed course.now.places.of_bits.items rows.old) }
+        (IsStart number) (placed places.now.of_bits.items rows.old) }
     ensures { AreLabelsOf departing.now.flat.now departing.now.den departing.now.departures.now
-        (IsStart (number + 1)) (placed course.now.places.of_bits.items rows.new) }
+        (IsStart (number + 1)) (placed places.now.of_bits.items rows.new) }
 {
     let lane = departing.flat.element(number).phase as usize - 1;
     let time = output_time(departing, number);
-    let place = course.places.of_bits[2 * number as usize + 1];
+    let place = places.of_bits[2 * number as usize + 1];
     begin(rows, place as usize, lane, time);
 }
 
 /// Makes the labels those of the empty paths.
-fn begin_all(rows: &mut [Labels], departing: &DepartingDesign<'_>, course: &Course)
-    ghost order: { List ℕ }
-    requires course { IsCourse departing.now.flat.now order course.now }
-    requires places { length rows.old ≡ course.now.places.given + 1 }
+fn begin_all(rows: &mut [Labels], departing: &DepartingDesign<'_>, places: &Places)
+    requires places { ArePlacesOf departing.now.flat.now places.now }
+    requires count { length rows.old ≡ places.now.given + 1 }
     requires absent { (row : ℕ) → row < length rows.old → labels_at rows.old row ≡ NO_LABELS }
     ensures labels { AreLabelsOf departing.now.flat.now departing.now.den departing.now.departures.now
-        (IsStart (length departing.now.flat.now.elements)) (placed course.now.places.of_bits.items rows.new) }
+        (IsStart (length departing.now.flat.now.elements)) (placed places.now.of_bits.items rows.new) }
     ensures design { IsDesign departing.now.flat.now }
 {
     for number in 0..departing.flat.element_count() {
-        begin_element(rows, departing, course, number);
+        begin_element(rows, departing, places, number);
     }
 }
 
@@ -210,11 +221,12 @@ fn fill(rows: &mut [Labels], departing: &DepartingDesign<'_>, order: &Order, cou
     ensures { AreTimelyLabels departing.now.flat.now departing.now.den departing.now.departures.now
         (placed course.now.places.of_bits.items rows.new) }
 {
-    begin_all(rows, departing, course);
+    begin_all(rows, departing, &course.places);
     carry_all(rows, departing, order, course);
 }
 
 /// The labels at all bits.
+#[tactic(auto, using(crate::proofs::Placed::AreInside_given))]
 pub(crate) fn labels_of(
     alloc: Global,
     departing: &DepartingDesign<'_>,
@@ -227,8 +239,5 @@ pub(crate) fn labels_of(
     let course = course_of(alloc, departing.flat, order)?;
     let mut rows = vec![in alloc; NO_LABELS; course.places.given as usize + 1]?;
     fill(&mut rows, departing, order, &course);
-    Ok(LabelTable {
-        places: course.places.of_bits,
-        rows,
-    })
+    Ok(LabelTable::new(course.places.of_bits, rows))
 }

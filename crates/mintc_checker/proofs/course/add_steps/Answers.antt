@@ -5,8 +5,8 @@ use Rattle.mintc_checker.specs.Course.{IsStep}
 use Rattle.mintc_checker.proofs.Placing.{AreSteps-more, AreSteps-none}
 use Rattle.mintc_checker.proofs.course.add_steps.Goals as goal
 
-pub loop-place-start : goal.loop-place-start
-loop-place-start c = record {
+pub loop-place-init : goal.loop-place-init
+loop-place-init c = record {
   places = c.requires.places;
   count = c.requires.count;
   outputs = c.requires.outputs;
@@ -28,3 +28,6 @@ loop-place-preserved c =
       given = omega (arith, h.given, i.given);
       steps = rw c.in_ok-push.ensures.items (AreSteps-more c.args.flat.now.arcs c.args.order.now c.loop-place.place old new c.loop-place.steps.items c.step_of-step.result i.steps h.kept is);
     }
+
+pub step_of-step-requires-clause-max : goal.step_of-step-requires-clause-max
+step_of-step-requires-clause-max c = c.arc_at_place-arc.ensures.kept.max

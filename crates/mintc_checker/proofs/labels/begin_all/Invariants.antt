@@ -5,10 +5,7 @@ use Rattle.mintc_checker.proofs.labels.begin_all.Given as goal
 
 -- the elements so far are begun
 abbrev pub invariant-loop-number : goal.invariant-loop-number
-invariant-loop-number g l = record {
-  places : length l.rows ≡ l.course.places.given + 1;
-  labels : AreLabelsOf l.departing.flat.now l.departing.den l.departing.departures.now (IsStart l.number) (placed l.course.places.of_bits.items l.rows);
+invariant-loop-number l = record {
+  count : length l.rows ≡ l.places.given + 1;
+  labels : AreLabelsOf l.departing.flat.now l.departing.den l.departing.departures.now (IsStart l.number) (placed l.places.of_bits.items l.rows);
 }
-
-abbrev pub ghost-begin_element : goal.ghost-begin_element
-ghost-begin_element g a = g.order
