@@ -1,5 +1,5 @@
 -- Labels at the places of bits.
-use Rattle.std.proofs.Common.{◌≡◌, ◌≢◌, ℕ, ◌<◌, ◌≤◌, ◌+◌, ◌*◌, ◌*ℤ◌, ℤ, List, length, get_or, arith, refl, ap, ◌∙◌, sym, subst, ⊎_elim, None, Option}
+use Rattle.std.proofs.Common.{◌≡◌, ◌≢◌, ℕ, ◌<◌, ◌≤◌, ◌+◌, ◌*ℤ◌, ℤ, List, length, get_or, arith, refl, ap, ◌∙◌, sym, subst, ⊎_elim, None}
 use Rattle.std.specs.Int.{int_max}
 use Rattle.std.specs.List.{All}
 use Rattle.std.proofs.lemmas.Bool.{cases_lt}
@@ -19,7 +19,7 @@ use Rattle.mintc_checker.specs.declared.course.Course.{Course}
 use Rattle.mintc_checker.specs.declared.course.Places.{Places}
 use Rattle.mintc_checker.specs.declared.course.Step.{Step}
 use Rattle.mintc_checker.specs.Course.{place_at, placed, ArePlaces, ArePlacesOf, AreInside, IsCourse, IsStep}
-use Rattle.mintc_checker.specs.Labels.{labels_at, label_at, no_labels, AreLabelsOf, IsStart, IsAlong}
+use Rattle.mintc_checker.specs.Labels.{labels_at, no_labels, AreLabelsOf, IsStart, IsAlong}
 use Rattle.mintc_checker.proofs.Carrying.{carried}
 use Rattle.mintc_checker.proofs.Sizes.{AreLanes-from_labels}
 

@@ -1,5 +1,5 @@
 -- Places of bits, and steps from place to place.
-use Rattle.std.proofs.Common.{◌≡◌, ◌≢◌, ℕ, ◌<◌, ◌≤◌, ◌+◌, ◌*◌, List, [], ◌∷◌, ◌++◌, length, get_or, set, replicate, length-set, get_or-set_same, get_or-set_other, arith, refl, ap, ◌∙◌, sym, ⊎_elim, subst}
+use Rattle.std.proofs.Common.{◌≡◌, ◌≢◌, ℕ, ◌<◌, ◌≤◌, ◌+◌, List, [], ◌∷◌, ◌++◌, length, get_or, set, replicate, get_or-set_same, get_or-set_other, arith, ap, ◌∙◌, sym, ⊎_elim, subst}
 use Rattle.std.proofs.lemmas.Bool.{cases_eq}
 use Rattle.std.proofs.lemmas.List.{get_or_append_left, get_or-replicate, get_or_past, length-replicate, length-append}
 use Rattle.std.proofs.Math.Seq.{get_or-append_seam}
@@ -7,7 +7,7 @@ use Rattle.mintc_timing.specs.declared.parts.TimingArc.{TimingArc}
 use Rattle.mintc_timing.specs.Paths.{arc_at, output_of}
 use Rattle.mintc_checker.specs.declared.course.Places.{Places}
 use Rattle.mintc_checker.specs.declared.course.Step.{Step}
-use Rattle.mintc_checker.specs.Course.{place_at, ArePlaces, AreSteps, HaveOutputs, IsStep, no_step, step_at}
+use Rattle.mintc_checker.specs.Course.{place_at, ArePlaces, AreSteps, HaveOutputs, IsStep, StayPlaced, no_step, step_at}
 
 pub none_placed : (count : ℕ) (places : List ℕ) → places ≡ replicate count 0 → (bit : ℕ) → place_at places bit ≡ 0
 none_placed count places same bit = grind (arith, same, get_or-replicate {A = ℕ} count bit 0 0, get_or_past {X = ℕ} (replicate count 0) bit 0, length-replicate {A = ℕ} count 0)
@@ -17,10 +17,6 @@ ArePlaces-none places none = record {
   below = λ bit. omega (arith, none bit);
   apart = λ bit other ne same. none bit;
 }
-
--- what the places of bits keep
-abbrev pub StayPlaced : List ℕ → List ℕ → Type 0
-StayPlaced old new = (other : ℕ) → place_at old other ≢ 0 → place_at new other ≡ place_at old other
 
 -- a bit without a place takes none from the others
 pub kept_by_set : (old : List ℕ) (bit given : ℕ) (new : List ℕ) → place_at old bit ≡ 0 → new ≡ set old bit given → StayPlaced old new

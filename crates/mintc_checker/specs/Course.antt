@@ -19,6 +19,10 @@ pub record ArePlaces (places : Places) : Type 0 where
   pub apart : (bit other : ℕ) → bit ≢ other → place_at places.of_bits.items bit ≡ place_at places.of_bits.items other →
       place_at places.of_bits.items bit ≡ 0
 
+-- Each bit that has a place keeps it.
+abbrev pub StayPlaced : List ℕ → List ℕ → Type 0
+StayPlaced old new = (bit : ℕ) → place_at old bit ≢ 0 → place_at new bit ≡ place_at old bit
+
 -- The outputs of the first so many elements have places.
 abbrev pub HaveOutputs : ℕ → List ℕ → Type 0
 HaveOutputs count places = (l : ℕ) → l < count → place_at places (output_of l) ≢ 0

@@ -1,9 +1,9 @@
 //! The arcs of a design in their order, each from place to place. The bits get their places in the order in which the
 //! arcs come to them, so that labels which are carried one after another stand near each other in memory.
-ghost use Rattle.std.specs.Prelude.{◌≡◌, ◌≢◌, ◌+◌, ◌-◌, ◌*◌, ◌^◌, ◌<◌, ◌≤◌, ℕ, length, IfOk, OnOk};
+ghost use Rattle.std.specs.Prelude.{◌≡◌, ◌≢◌, ◌+◌, ◌-◌, ◌*◌, ◌^◌, ◌<◌, ◌≤◌, length, IfOk, OnOk};
 ghost use Rattle.mintc_timing.specs.Limits.{IsDelay};
 ghost use Rattle.mintc_timing.specs.Order.{IsOrder};
-ghost use Rattle.mintc_checker.specs.Course.{place_at, ArePlaces, AreSteps, HaveOutputs, IsCourse, IsStep};
+ghost use Rattle.mintc_checker.specs.Course.{place_at, ArePlaces, AreSteps, HaveOutputs, IsCourse, IsStep, StayPlaced};
 
 use crate::reading::arc_at_place;
 use mintc_text::OutOfMemory;
@@ -11,7 +11,7 @@ use mintc_timing::{Flat, Order, TimingArc};
 use std::alloc::Global;
 
 /// An arc from the place of one bit to that of another, with its greatest delay in femtoseconds.
-#[derive(Clone, Copy, Drop)]
+#[derive(Clone, Copy)]
 pub(crate) struct Step {
     pub(crate) from: u32,
     pub(crate) to: u32,
@@ -52,8 +52,7 @@ impl Places {
         requires places { ArePlaces self.old }
         ensures places { ArePlaces self.new }
         ensures count { length self.new.of_bits.items ≡ length self.old.of_bits.items }
-        ensures kept { (other : ℕ) → place_at self.old.of_bits.items other ≢ 0 →
-            place_at self.new.of_bits.items other ≡ place_at self.old.of_bits.items other }
+        ensures kept { StayPlaced self.old.of_bits.items self.new.of_bits.items }
         ensures own { result ≡ place_at self.new.of_bits.items bit }
         ensures some { result ≢ 0 }
         ensures given { self.new.given ≤ self.old.given + 1 }
@@ -92,8 +91,7 @@ fn step_of(places: &mut Places, arc: TimingArc) -> Step
     requires places { ArePlaces places.old }
     ensures places { ArePlaces places.new }
     ensures count { length places.new.of_bits.items ≡ length places.old.of_bits.items }
-    ensures kept { (other : ℕ) → place_at places.old.of_bits.items other ≢ 0 →
-        place_at places.new.of_bits.items other ≡ place_at places.old.of_bits.items other }
+    ensures kept { StayPlaced places.old.of_bits.items places.new.of_bits.items }
     ensures step { IsStep places.new.of_bits.items arc result }
     ensures given { places.new.given ≤ places.old.given + 2 }
 {
@@ -124,7 +122,6 @@ fn add_steps(
     ensures outputs { OnOk result (HaveOutputs (length flat.now.elements) places.new.of_bits.items) }
     ensures steps { OnOk result
         (AreSteps flat.now.arcs order.now (length order.now) places.new.of_bits.items steps.new.items) }
-    ensures few { OnOk result (places.new.given < 2 ^ 32 - 1) }
 {
     let _elements = flat.elements();
     for place in 0..order.arcs().items().len() {
@@ -138,8 +135,7 @@ fn add_steps(
 /// The course of a design's arcs in this order. All outputs have places.
 pub(crate) fn course_of(alloc: Global, flat: &Flat, order: &Order) -> Result<Course, OutOfMemory>
     requires { IsOrder flat.now.arcs order.now }
-    ensures course { IfOk result (IsCourse flat.now order.now) }
-    ensures few { IfOk result (λ course. course.places.given < 2 ^ 32 - 1) }
+    ensures { IfOk result (IsCourse flat.now order.now) }
 {
     let mut places = Places::new(alloc, flat.bit_count())?;
     meet_outputs(&mut places, flat);

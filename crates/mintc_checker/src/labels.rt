@@ -127,12 +127,7 @@ fn begin(rows: &mut [Labels], place: usize, lane: usize, time: i64)
 }
 
 /// Begins the lane of an element's phase at its output.
-fn begin_element(
-    rows: &mut [Labels],
-    departing: &DepartingDesign<'_>,
-    places: &Places,
-    number: u32,
-)
+fn begin_element(rows: &mut [Labels], departing: &DepartingDesign<'_>, places: &Places, number: u32)
     requires number { number < length departing.now.flat.now.elements }
     requires places { ArePlacesOf departing.now.flat.now places.now }
     requires count { length rows.old ≡ places.now.given + 1 }

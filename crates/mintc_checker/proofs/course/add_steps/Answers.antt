@@ -1,7 +1,5 @@
-use Rattle.std.proofs.Common.{◌≡◌, ◌<◌, ◌∙◌, ◌+◌, ◌*◌, length, sym, arith}
-use Rattle.std.proofs.lemmas.Grind.{common_steps}
+use Rattle.std.proofs.Common.{◌∙◌, sym, arith}
 use Rattle.mintc_timing.specs.Paths.{output_of}
-use Rattle.mintc_checker.specs.Course.{IsStep}
 use Rattle.mintc_checker.proofs.Placing.{AreSteps-more, AreSteps-none}
 use Rattle.mintc_checker.proofs.course.add_steps.Goals as goal
 

@@ -1,5 +1,4 @@
-use Rattle.std.proofs.Common.{◌≡◌, ◌∙◌, arith}
-use Rattle.std.proofs.lemmas.Grind.{common_steps}
+use Rattle.std.proofs.Common.{◌∙◌, arith}
 use Rattle.mintc_checker.proofs.Placing.{HaveOutputs-more}
 use Rattle.mintc_checker.proofs.course.meet_outputs.Goals as goal
 

@@ -1,4 +1,4 @@
-use Rattle.std.proofs.Common.{◌≡◌, ◌∙◌, sym}
+use Rattle.std.proofs.Common.{◌∙◌, sym}
 use Rattle.mintc_timing.proofs.SharedFitting.{read_time, IsTime-IsDelay}
 use Rattle.mintc_checker.proofs.course.step_of.Goals as goal
 

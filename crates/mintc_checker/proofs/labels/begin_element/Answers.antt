@@ -1,4 +1,4 @@
-use Rattle.std.proofs.Common.{◌≡◌, ◌≢◌, ◌<◌, ℕ, List, ◌+◌, ◌-◌, arith, ap, ◌∙◌, length, sym}
+use Rattle.std.proofs.Common.{◌≡◌, ◌≢◌, ◌<◌, ◌+◌, ◌-◌, arith, ap, ◌∙◌, length, sym}
 use Rattle.std.proofs.lemmas.Grind.{common_steps}
 use Rattle.mintc_timing.specs.declared.parts.Element.{Element}
 use Rattle.mintc_timing.specs.Paths.{output_of}

@@ -1,16 +1,13 @@
-use Rattle.std.proofs.Common.{◌≡◌, ◌<◌, ℕ, List, length, get_or, arith, refl, ap, ◌∙◌, sym}
+use Rattle.std.proofs.Common.{◌<◌, length, get_or, arith, ◌∙◌}
 use Rattle.std.proofs.lemmas.Grind.{common_steps}
 use Rattle.std.proofs.lemmas.List.{get_or_default}
-use Rattle.mintc_timing.specs.declared.parts.TimingArc.{TimingArc}
 use Rattle.mintc_timing.specs.Design.{no_arc}
 use Rattle.mintc_timing.specs.Limits.{IsArc}
 use Rattle.mintc_timing.specs.Paths.{arc_at}
 use Rattle.mintc_timing.proofs.SharedOrdered.{inside}
-use Rattle.mintc_checker.specs.declared.labels.Labels.{Labels}
-use Rattle.mintc_checker.specs.Course.{place_at, placed, step_at, no_step, IsStep}
-use Rattle.mintc_checker.specs.Labels.{IsAlong, labels_at}
-use Rattle.mintc_checker.proofs.Carrying.{carried}
-use Rattle.mintc_checker.proofs.Placed.{length-placed, placed_others, placed_own, carried_placed, step_lanes}
+use Rattle.mintc_checker.specs.Course.{no_step, IsStep}
+use Rattle.mintc_checker.specs.Labels.{IsAlong}
+use Rattle.mintc_checker.proofs.Placed.{carried_placed, step_lanes}
 use Rattle.mintc_checker.proofs.labels.carry_all.Goals as goal
 use Rattle.mintc_checker.proofs.labels.carry_all.Goals.{After-index}
 

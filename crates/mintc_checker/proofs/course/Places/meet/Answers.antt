@@ -1,6 +1,5 @@
-use Rattle.std.proofs.Common.{◌≡◌, ◌+◌, arith}
+use Rattle.std.proofs.Common.{◌+◌, arith}
 use Rattle.std.proofs.lemmas.Grind.{common_steps}
-use Rattle.mintc_checker.specs.Course.{place_at}
 use Rattle.mintc_checker.proofs.Placing.{ArePlaces-given, kept_by_set}
 use Rattle.mintc_checker.proofs.course.Places.meet.Goals as goal
 
