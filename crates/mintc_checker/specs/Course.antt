@@ -44,7 +44,8 @@ pub record IsStep (places : List ℕ) (arc : TimingArc) (step : Step) : Type 0 w
   pub ends : step.to ≢ 0
 
 -- The steps are those of the first k arcs of the order.
-pub record AreSteps (arcs : List TimingArc) (order : List ℕ) (k : ℕ) (places : List ℕ) (steps : List Step) : Type 0 where
+pub record AreSteps (arcs : List TimingArc) (order : List ℕ) (k : ℕ) (places : List ℕ)
+    (steps : List Step) : Type 0 where
   pub count : length steps ≡ k
   pub each : (i : ℕ) → i < k → IsStep places (arc_at arcs (slice_index_or order i 0)) (step_at steps i)
 
