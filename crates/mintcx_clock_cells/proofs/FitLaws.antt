@@ -1,6 +1,7 @@
 -- Gates that are fit for the clock, and the first that isn't.
 use Rattle.std.proofs.Common.{◌≡◌, ◌==◌, ℕ, ◌+◌, ◌<◌, Bool, true, false, nat_lt, List, [], ◌∷◌, length, get_or, All, Ok, refl, sym, ap, subst, ◌∙◌, arith}
 use Rattle.std.specs.List.{AllWithin}
+use Rattle.std.proofs.lemmas.Bool.{eqb-true}
 use Rattle.std.proofs.lemmas.Bool.Decides.{nat_tests}
 use Rattle.std.proofs.lemmas.List.{get_or_default}
 use Rattle.mintc_cells.specs.Entries.{names_of, cell_at}
@@ -52,4 +53,5 @@ no-gates text [] own library none = record {
   names = refl;
   each = λ k h. refl;
 }
-no-gates text (g ∷ gates) own library none = absurd (cc)
+no-gates text (g ∷ gates) own library none =
+    let empty : length (g ∷ gates) ≡ 0 = eqb-true (length (g ∷ gates)) 0 none in absurd (omega (arith, empty))
