@@ -170,7 +170,7 @@ fn carried_in_description(
 
 /// The latch or flop of a number that is on no phase, by the text of a library or of a cell description, and how its
 /// clock comes to it. None where it isn't found.
-pub(crate) fn carried(
+pub(crate) fn clock_of(
     alloc: Global,
     file: &[u8],
     beside: &[u8],

@@ -78,7 +78,7 @@ fn first_connected(connection: &[u8]) -> Option<Connected> {
 }
 
 /// What the enable or clock pin of a latch or flop is connected to, by its connection.
-fn connected(connection: &[u8]) -> Connected {
+fn connected_to(connection: &[u8]) -> Connected {
     first_connected(connection).unwrap_or(Connected::Net)
 }
 
@@ -97,7 +97,7 @@ pub(crate) fn put_clock_label(
         out.put(b" comes through a ")?;
         return out.put(kind_word(through.kind));
     }
-    out.put(match connected(marked(case)) {
+    out.put(match connected_to(marked(case)) {
         Connected::Nothing => b" isn't connected",
         Connected::Constant => b" is a constant",
         Connected::Net => b" leads back to no phase",
@@ -233,7 +233,7 @@ fn put_through_help(
 
 /// Writes what helps where no cell is found on the way of a clock.
 fn put_end_help(out: &mut Lines, case: &Case<'_>, way: &Way) -> Result<(), OutOfMemory> {
-    if connected(marked(case)) != Connected::Net {
+    if connected_to(marked(case)) != Connected::Net {
         return out.put(b"connect it to a clock");
     }
     out.put(b"follow it back to an input of the top, and give that a phase of its level in ")?;

@@ -6,7 +6,7 @@ ghost use Rattle.mintcx_refusals.specs.Places.{HasMark, HasNoPlace, HasNone, IsA
 ghost use Rattle.mintcx_refusals.specs.Places.{pointer_of};
 ghost use Rattle.mintcx_refusals.specs.Loops.{from_second};
 
-use crate::carriers::{Carried, Way, carried};
+use crate::carriers::{Carried, Way, clock_of};
 use mintc_text::{OutOfMemory, Refusal, Role};
 use mintcx_finders::{
     Fault, Found, arc_lines, behaviour, broken_statement, cell_fault, clock_fault, far_number,
@@ -392,7 +392,7 @@ fn place_of_clock(
     ensures within { IfOk result (λ o. IfSome o (λ place. place.mark.from ≤ length file.now)) }
     ensures none { IfOk result (λ o. IfNone o (HasNoPlace file.now (Refusal.NoPhase element))) }
 {
-    match carried(alloc, file, beside, element)? {
+    match clock_of(alloc, file, beside, element)? {
         Some(carried) => Ok(Some(place_carried(carried))),
         None => Ok(None),
     }
