@@ -3,3 +3,5 @@ pub mod Files
 pub mod Places
 pub mod Messages
 pub mod Parts
+-- What only the proofs need:
+pub mod Loops

@@ -10,7 +10,9 @@ use crate::places::{Place, fault_of};
 use crate::whys::{is_behaviour, why_of};
 use crate::writing::put_times;
 use mintc_sdf_tokens::is_key;
+use mintc_text::limits::MOST_BYTES;
 use mintc_text::{Bytes, Lines, OutOfMemory, Refusal, Role};
+use mintcx_clamp::clamp;
 use mintcx_finders::{Fault, Item, Lack, name_of};
 use std::alloc::Global;
 
@@ -188,9 +190,6 @@ fn help_of(case: &Case<'_>) -> &'static [u8] {
         Refusal::NoInstance { .. } => {
             b"write the SDF of this very netlist; look at DIVIDER, and at names with backslashes"
         }
-        Refusal::Negative { .. } => {
-            b"buffer the net; or `--clamp-negative`, which takes 0 for it: safe for setups, not for holds"
-        }
         Refusal::BadCell { rule, .. } => cell_help(*rule),
         Refusal::BadClock { rule, .. } => clock_help(*rule),
         Refusal::CombinationalLoop { .. } => b"break the loop, or put the missing latch into it",
@@ -231,8 +230,23 @@ fn top_name<'a>(case: &Case<'a>) -> &'a [u8] {
     }
 }
 
-/// Writes what helps, where that names a file.
-fn put_naming_help(out: &mut Lines, case: &Case<'_>) -> Result<(), OutOfMemory> {
+/// Whether `--clamp-negative` takes delays, which are refused for a number below 0.
+fn is_clamped(alloc: Global, file: &[u8]) -> Result<bool, OutOfMemory> {
+    Ok(file.len() <= MOST_BYTES && clamp(alloc, file)?.is_some())
+}
+
+/// Writes what helps with a delay below 0. Where the option would take the delays it wasn't given.
+fn put_negative_help(alloc: Global, out: &mut Lines, case: &Case<'_>) -> Result<(), OutOfMemory> {
+    out.put(b"buffer the net; or ")?;
+    out.put(if case.place.is_none() || is_clamped(alloc, case.file)? {
+        b"`--clamp-negative`, which takes 0 for it: safe for setups, not for holds"
+    } else {
+        b"write 0 for it, since `--clamp-negative` leaves values with blanks beside their colons"
+    })
+}
+
+/// Writes what helps, where that names a file or looks into one.
+fn put_naming_help(alloc: Global, out: &mut Lines, case: &Case<'_>) -> Result<(), OutOfMemory> {
     match case.refusal {
         Refusal::NoModule { .. } => {
             out.put(b"describe it in ")?;
@@ -250,6 +264,7 @@ fn put_naming_help(out: &mut Lines, case: &Case<'_>) -> Result<(), OutOfMemory> 
             out.put(named(case.inputs, Role::Cells, b"the cells"))
         }
         Refusal::NoPhase { .. } => put_clock_help(out, case),
+        Refusal::Negative { .. } => put_negative_help(alloc, out, case),
         _ => put_parts_help(out, case),
     }
 }
@@ -276,7 +291,7 @@ pub(crate) fn whole_help(alloc: Global, case: &Case<'_>) -> Result<Bytes, OutOfM
     let mut lines = Lines::new(alloc);
     let help = help_of(case);
     if help.is_empty() {
-        put_naming_help(&mut lines, case)?;
+        put_naming_help(alloc, &mut lines, case)?;
     } else {
         lines.put(help)?;
     }

@@ -250,7 +250,7 @@ fn put_fault(
         Fault::Driven { .. } => out.put(b" driven again"),
         Fault::Tops { .. } => out.put(b" nothing instantiates it"),
         Fault::Arcs { .. } => put_arc(out, file, mark),
-        Fault::Unclocked { unclocked } => put_clock_label(out, unclocked),
+        Fault::Unclocked { unclocked } => put_clock_label(out, case, unclocked),
         Fault::Long { .. } => out.put(b" here it passes 1,000,000,000 fs"),
         Fault::NoPort { ports, count, .. } => put_ports(out, file, ports, *count),
         Fault::NoPin { cell } => {

@@ -10,9 +10,11 @@
 #![tactic(auto)]
 
 mod advice;
+mod carriers;
 mod cases;
 mod clocks;
 mod counts;
+mod described;
 mod descriptions;
 mod details;
 mod entries;

@@ -4,11 +4,13 @@ ghost use Rattle.std.specs.Prelude.{IfOk};
 ghost use Rattle.mintcx_finders.specs.Places.{IsInside, IsRange};
 ghost use Rattle.mintcx_refusals.specs.Places.{HasMark, HasNoPlace, HasNone, IsAt, IsPlace, IsPlaceAt, before};
 ghost use Rattle.mintcx_refusals.specs.Places.{pointer_of};
+ghost use Rattle.mintcx_refusals.specs.Loops.{from_second};
 
+use crate::carriers::{Carried, Way, clock_of};
 use mintc_text::{OutOfMemory, Refusal, Role};
 use mintcx_finders::{
-    Fault, Found, arc_lines, behaviour, broken_statement, cell_fault, clock_fault, clockless,
-    far_number, field_fault, long_way, missing_cell, missing_instance, missing_pin, missing_port,
+    Fault, Found, arc_lines, behaviour, broken_statement, cell_fault, clock_fault, far_number,
+    field_fault, long_way, missing_cell, missing_instance, missing_pin, missing_port,
     missing_port_of_module, missing_way, name_twice, negative_number, possible_tops, ring,
     two_drivers, unclosed_list, unread_key, wrong_width,
 };
@@ -37,13 +39,15 @@ pub(crate) enum Pointer {
 }
 
 /// A place of a file: what is pointed at, or the last line, statement or entry before it, where the file ends too soon.
-/// What of it is marked, and why, if that is found: else all of it is marked.
+/// What of it is marked, and why, if that is found: else all of it is marked. Of a latch or flop on no phase also how
+/// its clock comes to it.
 #[derive(Clone, Copy)]
 pub(crate) struct Place {
     pub(crate) range: Range,
     pub(crate) is_last: bool,
     pub(crate) mark: Range,
     pub(crate) fault: Option<Fault>,
+    pub(crate) way: Option<Way>,
 }
 
 /// The line of a schedule that says how many phases it has.
@@ -140,6 +144,7 @@ fn whole(range: Range, is_last: bool) -> Place
         is_last,
         mark: range,
         fault: None,
+        way: None,
     }
 }
 
@@ -305,11 +310,30 @@ fn looked_through(
     Ok(with_found(place, found))
 }
 
+/// The arcs of a loop from the second one on, and the first one last.
+fn from_second(alloc: Global, arcs: &[u32]) -> Result<Vec<u32>, OutOfMemory>
+    ensures { IfOk result (λ turned. turned.items ≡ from_second arcs.now) }
+{
+    let mut turned = Vec::with_capacity(alloc, arcs.len())?;
+    if let [first, rest @ ..] = arcs {
+        turned.extend_from_slice(rest)?;
+        turned.push(*first)?;
+    }
+    Ok(turned)
+}
+
+/// The lines of the arcs of a loop, from the second one on.
+fn loop_lines(alloc: Global, file: &[u8], arcs: &[u32]) -> Result<Option<Found>, OutOfMemory>
+    ensures { IfOk result (λ o. IfSome o (λ found. IsRange file.now found.range)) }
+{
+    let arcs = from_second(alloc, arcs)?;
+    Ok(arc_lines(file, &arcs))
+}
+
 /// What is found of the places that are looked for in a whole file.
 fn found_anywhere(
     alloc: Global,
     file: &[u8],
-    beside: &[u8],
     refusal: &Refusal,
 ) -> Result<Option<Found>, OutOfMemory>
     ensures within { IfOk result (λ o. IfSome o (λ found. IsRange file.now found.range)) }
@@ -323,8 +347,7 @@ fn found_anywhere(
         } => Ok(missing_port(file, *entry)),
         Refusal::BadCell { entry, rule } => cell_fault(alloc, file, *entry, *rule),
         Refusal::BadClock { entry, rule } => Ok(clock_fault(file, *entry, *rule)),
-        Refusal::CombinationalLoop { arcs } => Ok(arc_lines(file, arcs.items())),
-        Refusal::NoPhase { element } => clockless(alloc, file, beside, *element),
+        Refusal::CombinationalLoop { arcs } => loop_lines(alloc, file, arcs.items()),
         Refusal::PathRange { element, bit } => long_way(alloc, file, *element, *bit),
         _ => Ok(None),
     }
@@ -341,6 +364,37 @@ fn place_found(found: Found) -> Place
         is_last: false,
         mark: found.range,
         fault: Some(found.fault),
+        way: None,
+    }
+}
+
+/// A latch or flop that is on no phase, as a place.
+fn place_carried(carried: Carried) -> Place
+    ensures range { result.range ≡ carried.found.range }
+    ensures mark { result.mark ≡ carried.found.range }
+    ensures last { result.is_last ≡ false }
+{
+    Place {
+        way: Some(carried.way),
+        ..place_found(carried.found)
+    }
+}
+
+/// The latch or flop of a number that is on no phase, as a place.
+fn place_of_clock(
+    alloc: Global,
+    file: &[u8],
+    beside: &[u8],
+    element: u32,
+) -> Result<Option<Place>, OutOfMemory>
+    requires { HasNoPlace file.now (Refusal.NoPhase element) }
+    ensures some { IfOk result (λ o. IfSome o (IsPlace file.now (Refusal.NoPhase element))) }
+    ensures within { IfOk result (λ o. IfSome o (λ place. place.mark.from ≤ length file.now)) }
+    ensures none { IfOk result (λ o. IfNone o (HasNoPlace file.now (Refusal.NoPhase element))) }
+{
+    match clock_of(alloc, file, beside, element)? {
+        Some(carried) => Ok(Some(place_carried(carried))),
+        None => Ok(None),
     }
 }
 
@@ -356,7 +410,10 @@ fn place_anywhere(
     ensures within { IfOk result (λ o. IfSome o (λ place. place.mark.from ≤ length file.now)) }
     ensures none { IfOk result (λ o. IfNone o (HasNoPlace file.now refusal.now)) }
 {
-    match found_anywhere(alloc, file, beside, refusal)? {
+    if let Refusal::NoPhase { element } = refusal {
+        return place_of_clock(alloc, file, beside, *element);
+    }
+    match found_anywhere(alloc, file, refusal)? {
         Some(found) => Ok(Some(place_found(found))),
         None => Ok(None),
     }

@@ -1,6 +1,7 @@
 //! Why an input is refused.
 
 use crate::cases::{Case, bad_ending, bytes_at, first_word, is_last};
+use crate::clocks::clock_why;
 use crate::counts::put_count;
 use crate::lists::{put_cells, put_phases, put_way};
 use crate::places::fault_of;
@@ -132,7 +133,7 @@ fn plain_why(case: &Case<'_>) -> &'static [u8] {
         }
         Refusal::BadCell { rule: 6, .. } => b"times of descriptions are whole femtoseconds",
         Refusal::BadClock { rule: 3, .. } => b"each phase has a `name` and a `port`",
-        Refusal::NoPhase { .. } => b"a clock goes through cells of kind `clock` alone",
+        Refusal::NoPhase { .. } => clock_why(case),
         Refusal::Corner { .. } => b"each corner has to be a design by itself",
         _ => b"",
     }

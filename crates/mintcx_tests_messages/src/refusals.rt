@@ -53,7 +53,7 @@ const NO_CLOCK: &str = "error[15]: a latch or flop is on no phase
  --> top.v
  = why: it is latch or flop 7, counted from 0 as they stand in the hierarchy
  = why: a clock goes through cells of kind `clock` alone
- = help: describe the cells on its clock's way in cells.toml with the kind `clock`, if they carry no data
+ = help: describe the cells on its clock's way in cells.toml with the kind `clock`, if they carry no data, and give its port a phase
  = note: `refused 15 7`; `mintcx explain 15` says more
 ";
 
@@ -222,15 +222,15 @@ arc n2 n0 5 5
 ";
 
 const ROUND: &str = "error[16]: data can run round without a latch or flop, through 3 arcs
- --> top.table:3:1
-3 | arc n0 n1 20 20
-  | ^^^^^^^^^^^^^^^ n0 -> n1
- ::: top.table:4:1
+ --> top.table:4:1
 4 | arc n1 n2 30 30
-  | --------------- n1 -> n2
+  | ^^^^^^^^^^^^^^^ n1 -> n2
  ::: top.table:5:1
 5 | arc n2 n0 5 5
   | ------------- n2 -> n0
+ ::: top.table:3:1
+3 | arc n0 n1 20 20
+  | --------------- n0 -> n1
   = help: break the loop, or put the missing latch into it
   = note: `refused 16 3 0 1 2`; `mintcx explain 16` says more
 ";

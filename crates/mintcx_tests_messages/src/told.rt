@@ -158,7 +158,11 @@ fn replaced(alloc: Global, text: &[u8], change: &Change) -> Result<Vec<u8>, OutO
 }
 
 /// A text with all changes.
-fn changed(alloc: Global, text: &str, changes: &[Change]) -> Result<Vec<u8>, OutOfMemory> {
+pub(crate) fn changed(
+    alloc: Global,
+    text: &str,
+    changes: &[Change],
+) -> Result<Vec<u8>, OutOfMemory> {
     let mut out = Vec::from_slice(alloc, text.as_bytes())?;
     for change in changes {
         out = replaced(alloc, &out, change)?;
@@ -549,6 +553,17 @@ const NEGATIVE: &str = "error[12]: a delay below 0
   = note: `refused 12 5`; `mintcx explain 12` says more
 ";
 
+const BLANKS_CHANGES: &[Change] = &[("(0.050)", "(-0.018 : 0 : 0)")];
+
+const BLANKS: &str = "error[12]: a delay below 0
+ --> top.sdf:5:40
+5 |  (DELAY (ABSOLUTE (IOPATH A Y (0.060) (-0.018 : 0 : 0))))))
+  |                                        ^^^^^^ -18 fs, at `u2.s.b`
+  = why: static timing tools write them where tables are read beyond their ends, mostly at long nets
+  = help: buffer the net; or write 0 for it, since `--clamp-negative` leaves values with blanks beside their colons
+  = note: `refused 12 5`; `mintcx explain 12` says more
+";
+
 const TOO_FAR_CHANGES: &[Change] = &[("1ps", "1ns"), ("0.060", "1500")];
 
 const TOO_FAR: &str = "error[18]: a number above 1 us
@@ -579,6 +594,14 @@ fn delays_at_fault_are_told(rt: HostRuntime) -> Result<(), OutOfMemory> {
     assert!(rt; is_told(alloc, DESIGN, NEGATIVE_CHANGES, &negative, NEGATIVE)?);
     let too_far = Refusal::Range { entry: 5 };
     assert!(rt; is_told(alloc, DESIGN, TOO_FAR_CHANGES, &too_far, TOO_FAR)?);
+    Ok(())
+}
+
+#[test]
+fn delays_that_stay_refused_are_told(rt: HostRuntime) -> Result<(), OutOfMemory> {
+    let alloc = rt.alloc();
+    let negative = Refusal::Negative { entry: 5 };
+    assert!(rt; is_told(alloc, DESIGN, BLANKS_CHANGES, &negative, BLANKS)?);
     Ok(())
 }
 
@@ -722,15 +745,15 @@ arc n2 n0 5 5",
 )];
 
 const LOOP: &str = "error[16]: data can run round without a latch or flop, through 3 arcs
-  --> top.table:10:1
-10 | arc n0 n1 20 20
-   | ^^^^^^^^^^^^^^^ n0 -> n1
-  ::: top.table:11:1
+  --> top.table:11:1
 11 | arc n1 n2 30 30
-   | --------------- n1 -> n2
+   | ^^^^^^^^^^^^^^^ n1 -> n2
   ::: top.table:12:1
 12 | arc n2 n0 5 5
    | ------------- n2 -> n0
+  ::: top.table:10:1
+10 | arc n0 n1 20 20
+   | --------------- n0 -> n1
    = help: break the loop, or put the missing latch into it
    = note: `refused 16 3 0 1 2`; `mintcx explain 16` says more
 ";
