@@ -432,7 +432,8 @@ const TABLE: Rows = Rows {
         ),
         (
             "mintcx slack --histogram --format csv",
-            "3||error: '--format csv' isn't there for 'schedule', 'sdc', 'draw', '--histogram' and '--certificate'\n|",
+            "3||error: '--format csv' isn't there for 'schedule', 'sdc', 'draw', 'table', '--histogram' and \
+             '--certificate'\n|",
         ),
         (
             "mintcx check two.schedule --format csv",
