@@ -1,5 +1,5 @@
 -- What is written in parts: each part stands behind what is written before it.
-use Rattle.std.proofs.Common.{◌≡◌, List, [], ◌∷◌, ℕ, ◌<◌, ◌+◌, ◌++◌, length, map, take, append_assoc, append-nil, ap, ◌∙◌, sym}
+use Rattle.std.proofs.Common.{◌≡◌, List, [], ◌∷◌, ℕ, ◌++◌, map, append_assoc, append-nil, ap, ◌∙◌, sym}
 use Rattle.std.proofs.lemmas.Grind.{flat_map-append}
 use Rattle.std.proofs.lemmas.List.{map-append}
 use Rattle.mintc_text.specs.Lines.{ended, spaced, text_of, words}

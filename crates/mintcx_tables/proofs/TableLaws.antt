@@ -1,6 +1,7 @@
 -- The lines that are written are those of a table.
-use Rattle.std.proofs.Common.{◌≡◌, ◌<◌, ◌≤◌, ◌+◌, ◌*◌, ◌-◌, ◌/◌, ◌%◌, ◌==◌, ◌⊎◌, inl, inr, ℕ, List, [], ◌∷◌, ◌++◌, length, map, All, Bool, true, false, nat_le, if◌then◌else◌, codes, refl, ap, ◌∙◌, sym, subst, arith, Contains, true≢false}
+use Rattle.std.proofs.Common.{◌≡◌, ◌<◌, ◌≤◌, ◌+◌, ◌*◌, ◌-◌, ◌/◌, inl, inr, ℕ, List, [], ◌∷◌, ◌++◌, length, map, All, Bool, true, false, nat_le, if◌then◌else◌, codes, refl, ap, ◌∙◌, sym, subst, arith, Contains}
 use Rattle.std.proofs.Math.Nat.{div-add-mod}
+use Rattle.std.proofs.lemmas.Bool.{leb-false, leb-true}
 use Rattle.std.proofs.lemmas.List.Elements.{All-head, All-tail}
 use Rattle.std.proofs.lemmas.List.FromFn.{length-map-range_with_len}
 use Rattle.std.specs.Fmt.{digits}
@@ -13,7 +14,7 @@ use Rattle.mintc_timing.specs.declared.parts.Element.{Element}
 use Rattle.mintc_timing.specs.declared.parts.TimingArc.{TimingArc}
 use Rattle.mintc_timing_text.specs.Fields.{IsName, IsNameLine, Spells, number}
 use Rattle.mintc_timing_text.specs.LineForms.{count_line}
-use Rattle.mintc_timing_text.specs.TableForms.{AreTableLines, HasCounts}
+use Rattle.mintc_timing_text.specs.TableForms.{AreTableLines}
 use Rattle.mintc_timing_text.specs.TableText.{IsArcLine, IsBoundLine, IsElementLine, IsFromWord, IsTableText, IsToWord, element_words, inner_names, point_word, version_of}
 use Rattle.mintc_timing_text.specs.TextLaws.{HaveOneTableText, TableTextsAreTheirLines}
 use Rattle.mintcx_tables.specs.Lines.{arc_line, arc_lines, bit_word, bound_line, bound_lines, element_line, element_lines, phase_line, phase_lines, table_lines}
@@ -28,19 +29,23 @@ word_by letter n bit inner = if inner then codes "n" ++ number (bit - 2 * n) els
 
 from_by : (n m bit : ℕ) (inner : Bool) → nat_le (2 * n) bit ≡ inner → bit < 2 * n + m → ((l : ℕ) → l < n → bit ≡ 2 * l → ⊥) →
     IsFromWord n m (word_by (codes "q") n bit inner) bit
-from_by n m bit true e few odd = inr (bit - 2 * n, omega (arith, e), refl, omega (arith, e))
+from_by n m bit true e few odd =
+    let high : 2 * n ≤ bit = leb-true (2 * n) bit e in
+    inr (bit - 2 * n, omega (arith, high, few), refl, omega (arith, high))
 from_by n m bit false e few odd =
     let parts = div-add-mod bit 2 in
-    let low : 2 * n ≤ bit → ⊥ = λ h. true≢false (sym h ∙ e) in
+    let low : bit < 2 * n = leb-false (2 * n) bit e in
     let half : bit / 2 < n = omega (arith, low, parts) in
     inl (bit / 2, half, refl, omega (arith, parts, λ (h : bit ≡ 2 * (bit / 2)). odd (bit / 2) half h))
 
 to_by : (n m bit : ℕ) (inner : Bool) → nat_le (2 * n) bit ≡ inner → bit < 2 * n + m → ((l : ℕ) → l < n → bit ≡ 2 * l + 1 → ⊥) →
     IsToWord n m (word_by (codes "d") n bit inner) bit
-to_by n m bit true e few even = inr (bit - 2 * n, omega (arith, e), refl, omega (arith, e))
+to_by n m bit true e few even =
+    let high : 2 * n ≤ bit = leb-true (2 * n) bit e in
+    inr (bit - 2 * n, omega (arith, high, few), refl, omega (arith, high))
 to_by n m bit false e few even =
     let parts = div-add-mod bit 2 in
-    let low : 2 * n ≤ bit → ⊥ = λ h. true≢false (sym h ∙ e) in
+    let low : bit < 2 * n = leb-false (2 * n) bit e in
     let half : bit / 2 < n = omega (arith, low, parts) in
     inl (bit / 2, half, refl, omega (arith, parts, λ (h : bit ≡ 2 * (bit / 2) + 1). even (bit / 2) half h))
 

@@ -1,4 +1,4 @@
-use Rattle.std.proofs.Common.{◌≡◌, ◌++◌, List, ℕ, ap, ◌∙◌}
+use Rattle.std.proofs.Common.{◌++◌, List, ℕ, ap, ◌∙◌}
 use Rattle.mintc_text.specs.Lines.{text_of}
 use Rattle.mintcx_tables.specs.Lines.{table_lines}
 use Rattle.mintcx_tables.proofs.TableLaws.{is_table_of}
