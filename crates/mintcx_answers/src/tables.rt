@@ -22,7 +22,7 @@ pub enum Tabled {
 }
 
 /// The table of a design, or what of it no table can say.
-fn tabled(alloc: Global, flat: &Flat) -> Result<Tabled, OutOfMemory>
+fn told_table(alloc: Global, flat: &Flat) -> Result<Tabled, OutOfMemory>
     ensures { IfOk result (IsTabled flat.now) }
 {
     match obstacle_of(flat) {
@@ -44,7 +44,7 @@ fn tabled_design(
     ensures stop { IfErr result (StopsAt (IsSourceRefused limits.now source texts.old)) }
 {
     let system = system_of(alloc, limits, source, texts)?;
-    Ok(tabled(alloc, system.flat())?)
+    Ok(told_table(alloc, system.flat())?)
 }
 
 /// A design as one table, of the first bytes of its files, or their first refusal, which is that of mintc's `optimise`.
