@@ -5,6 +5,8 @@ write on standard error, and one of mintcx only what an example says.
   ANSWER has, to the byte, and ends with the status in the same line of a file `status` beside it, 0 where there is no such file. Where
   ` 2> WARNINGS` follows, mintcx writes what the file WARNINGS has on standard error.
 - Plain: for each line of mintc, mintcx with the same files by options and `--format plain` writes what mintc writes and ends so.
+- Tables: for each line `mintc optimise`, `mintc optimise` writes the same of the table that mintcx writes of the design; and a name that
+  is longer than a table's is told.
 - Objects: for each line of mintc, mintcx with `--format json` writes one line that Python reads, with the numbers of mintc.
 - Statuses 2 to 7 of each program: 0 and 1 are those of examples.
 - Explanations: of each refusal, mintcx writes what its section of docs/refusals.md has, to the byte.
@@ -100,6 +102,26 @@ def other_plain_answers():
         if program == MINTC:
             status, output, _ = run(MINTC, words, folder)
             yield from differences(f"{what}, by mintcx", run(MINTCX, with_options(words), folder), status, output)
+
+
+def other_tables():
+    """Designs of examples whose optimum isn't that of their table, and what is said of names that no table has."""
+    with tempfile.TemporaryDirectory() as name:
+        table = pathlib.Path(name) / "design.table"
+        for what, folder, program, words, status, answer, _ in examples(TOP / "examples"):
+            if program == MINTC and words[0] == "optimise" and status < 2:
+                written = run(MINTCX, ["table", *with_options(words)[1:-2], "-o", table], folder)
+                yield from differences(f"{what}, its table", written, 0, b"", written[2])
+                yield from differences(f"{what}, by its table", run(MINTC, ["optimise", "table", table], folder), status, answer.encode())
+        files = {file: (TOP / "examples/two-by-files" / file).read_text() for file in ("two.v", "two.sdf", "two.cells", "two.clock")}
+        for length, status in ((1000, 0), (1001, 1)):
+            (pathlib.Path(name) / "two.v").write_text(files["two.v"].replace("l[0]", "l" * (length - len("u1."))))
+            for file in ("two.sdf", "two.cells", "two.clock"):
+                (pathlib.Path(name) / file).write_text(files[file])
+            words = ["table", "--netlist", "two.v", "--sdf", "two.sdf", "--cells", "two.cells", "--clock", "two.clock", "-q"]
+            ran = run(MINTCX, words, name)
+            message = b"error: the design has no table: the name of element 0 isn't 1 to 1000 bytes from 33 to 126\n"
+            yield from differences(f"a name of {length} bytes", ran, status, b"", message if status else b"")
 
 
 def ratios(words):
@@ -340,6 +362,7 @@ def other_explanations():
 def wrong():
     yield from wrong_examples()
     yield from other_plain_answers()
+    yield from other_tables()
     yield from other_objects()
     yield from other_explanations()
     latches, ring = TOP / "examples/two-latches", TOP / "examples/from-tools/latch-ring"

@@ -3,3 +3,4 @@ pub mod Answers
 pub mod Clocks
 pub mod Halts
 pub mod Pictures
+pub mod Tables

@@ -79,7 +79,8 @@ fn text_of_corners(
         | Aspect::Histogram
         | Aspect::Schedule(_)
         | Aspect::Clocks
-        | Aspect::Picture => corners_text(alloc, corners, certificate, view),
+        | Aspect::Picture
+        | Aspect::Table => corners_text(alloc, corners, certificate, view),
     }
 }
 

@@ -118,7 +118,8 @@ fn passed(
         | Aspect::Histogram
         | Aspect::Schedule(_)
         | Aspect::Clocks
-        | Aspect::Picture => pass_text(alloc, judged, view),
+        | Aspect::Picture
+        | Aspect::Table => pass_text(alloc, judged, view),
     }
 }
 
@@ -188,7 +189,8 @@ fn told_fail(
         | Aspect::Histogram
         | Aspect::Schedule(_)
         | Aspect::Clocks
-        | Aspect::Picture => failed(
+        | Aspect::Picture
+        | Aspect::Table => failed(
             alloc,
             failing.system,
             failing.schedule,
@@ -370,7 +372,7 @@ fn optimise_answer(
         Aspect::CycleRows(cycle) => cycle_rows(alloc, system, cycle),
         Aspect::Object => object_answer(alloc, "optimise", system, view),
         Aspect::CycleObject(cycle) => cycle_object(alloc, system, cycle, view),
-        Aspect::Whole | Aspect::Histogram | Aspect::Clocks | Aspect::Picture => {
+        Aspect::Whole | Aspect::Histogram | Aspect::Clocks | Aspect::Picture | Aspect::Table => {
             optimum_answer(alloc, system, view)
         }
     }
@@ -395,7 +397,8 @@ fn told_report(
         | Aspect::Histogram
         | Aspect::Schedule(_)
         | Aspect::Clocks
-        | Aspect::Picture => report_answer(alloc, work.netlist, system, view),
+        | Aspect::Picture
+        | Aspect::Table => report_answer(alloc, work.netlist, system, view),
     }
 }
 
@@ -455,7 +458,8 @@ fn text_of_safe(
         | Aspect::Histogram
         | Aspect::Schedule(_)
         | Aspect::Clocks
-        | Aspect::Picture => safe_text(alloc, system, certificate, without, view),
+        | Aspect::Picture
+        | Aspect::Table => safe_text(alloc, system, certificate, without, view),
     }
 }
 
@@ -506,7 +510,8 @@ fn text_of_slacks(
         | Aspect::CycleObject(_)
         | Aspect::Schedule(_)
         | Aspect::Clocks
-        | Aspect::Picture => slack_text(alloc, system, slacks, view),
+        | Aspect::Picture
+        | Aspect::Table => slack_text(alloc, system, slacks, view),
     }
 }
 

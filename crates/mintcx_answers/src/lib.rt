@@ -15,6 +15,7 @@ mod pictures;
 mod reports;
 mod schedules;
 mod subjects;
+mod tables;
 mod verdicts;
 
 pub use answering::{Question, answer_text};
@@ -23,3 +24,4 @@ pub use clocks::{Clocks, Stated, Statement, clocks_text};
 pub use halts::Halt;
 pub use pictures::{Motif, Pictured, Sketch, picture_for};
 pub use subjects::{names_beside, subject_of, titles_of};
+pub use tables::{Tabled, table_for};

@@ -151,7 +151,8 @@ fn text_of_verdict(
         | Aspect::Histogram
         | Aspect::Schedule(_)
         | Aspect::Clocks
-        | Aspect::Picture => told_verdict(alloc, judged, view),
+        | Aspect::Picture
+        | Aspect::Table => told_verdict(alloc, judged, view),
     }
 }
 
@@ -231,7 +232,8 @@ fn examined_answer(
         | Aspect::Object
         | Aspect::CycleObject(_)
         | Aspect::Clocks
-        | Aspect::Picture => {
+        | Aspect::Picture
+        | Aspect::Table => {
             let text = text_of_verdict(alloc, aspect, &judged, view)?;
             Ok(Answer {
                 status: verdict_status(verdict),

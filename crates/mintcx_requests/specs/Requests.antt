@@ -2,11 +2,11 @@
 use Rattle.std.specs.Prelude.{ℕ, Bool, ◌&&◌, ◌||◌, ◌==◌, not, nat_le, List, length, Option, Some}
 use Rattle.std.specs.Prelude.{None, is_some, unwrap_or, Result, Ok, Err, if◌then◌else◌}
 use Rattle.std.specs.Option.{option_or}
-use Rattle.mintcx_manners.specs.Commands.{has_table}
+use Rattle.mintcx_requests.specs.Commands.{has_table}
 use Rattle.mintcx_manners.specs.Manners.{limit_of}
 use Rattle.mintcx_manners.specs.Times.{time_of}
-use Rattle.mintcx_manners.specs.declared.commands.Asked.{Asked}
-use Rattle.mintcx_manners.specs.declared.commands.Asked.TheVariants as ask
+use Rattle.mintcx_requests.specs.declared.commands.Asked.{Asked}
+use Rattle.mintcx_requests.specs.declared.commands.Asked.TheVariants as ask
 use Rattle.mintcx_manners.specs.declared.manners.TimeUnit.{TimeUnit}
 use Rattle.mintcx_manners.specs.declared.manners.TimeUnit.TheVariants as time_unit
 use Rattle.mintcx_manners.specs.declared.manners.Limit.{Limit}
@@ -163,6 +163,7 @@ task_of ask.Corners p = Some (Ok task.Corners)
 task_of ask.Schedule p = Some (schedule_of p)
 task_of ask.Sdc p = Some (and_then (subject_of p) (λ file. Ok (task.Sdc file)))
 task_of ask.Draw p = Some (draw_of p)
+task_of ask.Table p = Some (Ok task.Table)
 task_of ask.Explain p = None
 
 -- ---- how the answer is given

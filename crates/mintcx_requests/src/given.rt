@@ -1,7 +1,8 @@
 //! What the words of a run give, before the project file is read.
 
+use crate::commands::Asked;
 use mintc_text::Name;
-use mintcx_manners::{Asked, Color, Detail, Format, TimeUnit};
+use mintcx_manners::{Color, Detail, Format, TimeUnit};
 use mintcx_project::Sources;
 
 /// How the answer is to be given, by the words alone.

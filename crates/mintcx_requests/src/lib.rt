@@ -7,9 +7,11 @@
 //! No contract says what the messages are: those are tested alone.
 #![tactic(auto)]
 
+mod commands;
 mod given;
 mod messages;
 mod requests;
 
+pub use commands::{Asked, COMMANDS};
 pub use given::{Given, MannerWords, Particulars};
 pub use requests::{Cells, Design, Fault, Manner, Request, Task, request_of};

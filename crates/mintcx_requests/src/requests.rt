@@ -5,9 +5,10 @@ ghost use Rattle.mintcx_requests.specs.Requests.{cells_of, counted, files_of, na
 ghost use Rattle.mintcx_requests.specs.Requests.{design_of, cycle_in, optimise_of, schedule_of, draw_of, subject_of};
 ghost use Rattle.mintcx_requests.specs.Requests.{task_of, limit_in, manner_of, request_of};
 
+use crate::commands::Asked;
 use crate::given::{Given, MannerWords, Particulars};
 use mintc_text::{Name, Names};
-use mintcx_manners::{Asked, Color, Detail, Format, Limit, TimeUnit, read_time};
+use mintcx_manners::{Color, Detail, Format, Limit, TimeUnit, read_time};
 use mintcx_project::{Settings, Sources};
 
 /// What the cells of a netlist are read from.
@@ -63,6 +64,7 @@ pub enum Task {
         file: Option<Name>,
         histogram: bool,
     },
+    Table,
 }
 
 /// How the answer is given.
@@ -375,6 +377,7 @@ fn task_of(asked: Asked, words: Particulars) -> Result<Task, Fault>
             file: subject_of(words)?,
         }),
         Asked::Draw => draw_of(words),
+        Asked::Table => Ok(Task::Table),
         Asked::Explain => unreachable!(),
     }
 }

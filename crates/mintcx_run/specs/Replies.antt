@@ -68,6 +68,9 @@ use Rattle.mintcx_answers.specs.declared.pictures.Motif.{Motif}
 use Rattle.mintcx_answers.specs.declared.pictures.Motif.TheVariants as motif
 use Rattle.mintcx_answers.specs.declared.pictures.Pictured.{Pictured}
 use Rattle.mintcx_answers.specs.declared.pictures.Pictured.TheVariants as pictured
+use Rattle.mintcx_answers.specs.Tables.{HasTable}
+use Rattle.mintcx_answers.specs.declared.tables.Tabled.{Tabled}
+use Rattle.mintcx_answers.specs.declared.tables.Tabled.TheVariants as tabled
 use Rattle.mintcx_picture.specs.declared.drawn.Drawn.TheVariants as drawn
 use Rattle.mintcx_sdc.specs.declared.text.Titles.{Titles}
 use Rattle.mintcx_frame.specs.declared.view.View.{View}
@@ -300,7 +303,17 @@ abbrev pub IsOfMotif : Option Motif → Source → Order → List Text → View 
 IsOfMotif (Some shows) from order fronts view told = IsPictured shows from fronts view told
 IsOfMotif None from order fronts view told = IsLone order fronts view told
 
--- an answer for people without a certificate beside it: clocks, a picture, or another one
+-- what is told where a table is asked for: the table, or a message that no table can say the design
+abbrev pub IsToldTable : Tabled → Told → Type 0
+IsToldTable (tabled.Said text) told = IsText Done text told
+IsToldTable (tabled.Unsaid obstacle) told =
+    (told.status ≡ Found) × (told.is_message ≡ true) × (told.certificate ≡ None)
+
+-- The design that files stand for, as one table.
+abbrev pub IsTable : Source → List Text → Told → Type 0
+IsTable from fronts told = (what : Tabled) × HasTable large from fronts what × IsToldTable what told
+
+-- an answer for people without a certificate beside it: clocks, a picture, a table, or another one
 abbrev pub IsByAspect : Aspect → Command → Order → List Text → View → Told → Type 0
 IsByAspect aspect.Clocks (OfDesign Check from) order fronts view told =
     AreClocks stated.Schedule from fronts view told
@@ -308,6 +321,7 @@ IsByAspect aspect.Clocks (OfDesign Verify from) order fronts view told =
     AreClocks stated.Certificate from fronts view told
 IsByAspect aspect.Picture (OfDesign job from) order fronts view told =
     IsOfMotif (motif_of job) from order fronts view told
+IsByAspect aspect.Table (OfDesign Optimise from) order fronts view told = IsTable from fronts told
 IsByAspect aspect command order fronts view told = IsLone order fronts view told
 
 abbrev pub IsUncertified : Order → List Text → View → Told → Type 0
@@ -331,11 +345,12 @@ abbrev pub is_plain : Format → Bool
 is_plain format.Plain = true
 is_plain form = false
 
--- a schedule is told, or clocks, or a picture, which have one form alone
+-- a schedule is told, or clocks, or a picture, or a table, which have one form alone
 abbrev pub has_one_form : Aspect → Bool
 has_one_form (aspect.Schedule cycle) = true
 has_one_form aspect.Clocks = true
 has_one_form aspect.Picture = true
+has_one_form aspect.Table = true
 has_one_form told = false
 
 -- mintc's own answer is asked for

@@ -11,16 +11,16 @@ ghost use Rattle.mintcx_answers.specs.Halts.{HaltsAt};
 ghost use Rattle.mintcx_answers.specs.Pictures.{job_of as job_for};
 ghost use Rattle.mintcx_run.specs.Replies.{AreClocks, IsAnswered, IsCertified, IsForPeople};
 ghost use Rattle.mintcx_run.specs.Replies.{IsLone, IsPlain, IsRefused, certified_source};
-ghost use Rattle.mintcx_run.specs.Replies.{IsPictured, IsToldOf, IsToldPicture, IsUncertified, IsUndrawn, has_one_form};
-ghost use Rattle.mintcx_run.specs.Replies.{is_own, motif_of};
+ghost use Rattle.mintcx_run.specs.Replies.{IsPictured, IsTable, IsToldOf, IsToldPicture, IsToldTable, IsUncertified};
+ghost use Rattle.mintcx_run.specs.Replies.{IsUndrawn, has_one_form, is_own, motif_of};
 
 use crate::orders::Order;
 use crate::unsaid::{ClockText, clock_among, unsaid_text};
 use mintc_command_answers::{Answer, Command, Job, Source, Status, answer_to};
 use mintc_text::{Bytes, Limits, Name, OutOfMemory, Stop};
 use mintcx_answers::{
-    Clocks, Halt, Motif, Pictured, Question, Sketch, Stated, Statement, answer_text,
-    certified_text, clocks_text, names_beside, picture_for, subject_of, titles_of,
+    Clocks, Halt, Motif, Pictured, Question, Sketch, Stated, Statement, Tabled, answer_text,
+    certified_text, clocks_text, names_beside, picture_for, subject_of, table_for, titles_of,
 };
 use mintcx_frame::View;
 use mintcx_manners::Format;
@@ -277,6 +277,42 @@ fn picture_answer(
     Ok(told_picture(alloc, pictured)?)
 }
 
+/// What is told where a table is asked for.
+fn told_table(alloc: Global, tabled: Tabled) -> Result<Told, OutOfMemory>
+    ensures value { IfOk result (IsToldTable tabled) }
+    ensures of_command { IfOk result (λ told. IsOfCommand told.status) }
+{
+    match tabled {
+        Tabled::Said(text) => Ok(Told {
+            status: Status::Done,
+            text,
+            is_message: false,
+            certificate: None,
+        }),
+        Tabled::Unsaid(obstacle) => {
+            let text = format!(in alloc; "error: the design has no table: {obstacle}\n")?;
+            Ok(Told {
+                status: Status::Found,
+                text: Bytes::new(text.into_bytes()),
+                is_message: true,
+                certificate: None,
+            })
+        }
+    }
+}
+
+/// A design as one table.
+fn table_answer(alloc: Global, source: Source, files: &mut [Bytes]) -> Result<Told, Stop>
+    requires { length files.old ≡ length (roles_of (Command.OfDesign Job.Optimise source)) }
+    ensures value { IfOk result (IsTable source files.old) }
+    ensures of_command { IfOk result (λ told. IsOfCommand told.status) }
+    ensures stop { IfErr result
+        (StopsAt (IsFirstRefusal large (Command.OfDesign Job.Optimise source) files.old)) }
+{
+    let tabled = table_for(alloc, &Limits::large(), source, files)?;
+    Ok(told_table(alloc, tabled)?)
+}
+
 /// The answer to a call for people, of an optimum without a certificate beside it.
 fn uncertified_answer(
     alloc: Global,
@@ -309,6 +345,13 @@ fn uncertified_answer(
                 source,
             },
         ) => Ok(clocks_answer(alloc, Stated::Certificate, source, names, view, files)?),
+        (
+            Aspect::Table,
+            Command::OfDesign {
+                job: Job::Optimise,
+                source,
+            },
+        ) => Ok(table_answer(alloc, source, files)?),
         (Aspect::Picture, Command::OfDesign { job, source }) => match motif_of(job) {
             Some(motif) => Ok(picture_answer(alloc, motif, source, names, view, files)?),
             None => lone_answer(alloc, order, view, files),
@@ -340,7 +383,7 @@ fn has_one_form(aspect: Aspect) -> bool
 {
     matches!(
         aspect,
-        Aspect::Schedule(_) | Aspect::Clocks | Aspect::Picture
+        Aspect::Schedule(_) | Aspect::Clocks | Aspect::Picture | Aspect::Table
     )
 }
 

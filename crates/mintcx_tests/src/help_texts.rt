@@ -17,6 +17,7 @@ Commands:
   schedule  Write a schedule for `check`: that of a certificate, or the earliest of a cycle time
   sdc       Write the clocks of a schedule as SDC, and when data comes to ports
   draw      Draw the schedule with the chain that decides, or how a schedule of yours fares, as SVG
+  table     Write the design as one table, which mintc reads
   explain   Explain a refusal at length
   help      Print this message or the help of the given subcommand(s)
 
@@ -350,6 +351,36 @@ Arguments:
 Options:
       --slack  Draw the slacks of all pairs instead, as a histogram
   -h, --help   Print help
+
+Design:
+  -p, --project <FILE>     Names the files below once [default: mintc.toml, where there is one]
+      --netlist <FILE>     Structural Verilog
+      --sdf <FILE>         Delays, in SDF
+      --cells <FILE>       What the cells do, in TOML
+      --lib <FILE>         The same from a Liberty library
+      --clock-cell <CELL>  With --lib: this gate of one input and one output carries the clock alone
+      --clock <FILE>       Phases, bounds and listed ports, in TOML
+      --table <FILE>       One table in place of the four files
+      --clamp-negative     Take 0 for each delay below 0, and warn: safe for setups, not for holds
+
+Answer:
+      --format <FORM>  plain is mintc's own text [default: text] [possible values: text, plain, json, csv]
+      --unit <UNIT>    Of the times that are shown [default: auto] [possible values: auto, fs, ps, ns]
+  -o, --output <FILE>  Write the answer here, once it is whole
+  -q, --quiet          Write no answer: the status says it
+      --errors <FORM>  short is a line each, as FILE:LINE:COLUMN: error[N]: .. [default: full] \
+      [possible values: full, short]
+      --color <WHEN>   auto: on a terminal, unless NO_COLOR is set [default: auto] \
+      [possible values: auto, always, never]
+";
+
+/// `mintcx table --help`.
+pub(crate) const HELP_TABLE: &str = "Write the design as one table, which mintc reads
+
+Usage: mintcx table [OPTIONS]
+
+Options:
+  -h, --help  Print help
 
 Design:
   -p, --project <FILE>     Names the files below once [default: mintc.toml, where there is one]

@@ -1,5 +1,5 @@
 //! Tests of the public calls of mintcx, of what no clause says: clap's texts, the messages, and rows of words with the
-//! requests that they are; what there is at some cycle times; amounts, columns, frames, explanations and clocks as SDC.
+//! requests that they are; what there is at some cycle times; amounts, columns, frames, explanations, clocks as SDC and designs as tables.
 #![tactic(auto)]
 
 #[cfg(test)]
@@ -20,6 +20,8 @@ mod projects;
 mod sdc;
 #[cfg(test)]
 mod shown;
+#[cfg(test)]
+mod tables;
 #[cfg(test)]
 mod words;
 #[cfg(test)]

@@ -55,6 +55,7 @@ fn task(alloc: Global, task: &Task) -> Result<String, Fail> {
         }
         Task::Sdc { file } => format!(in alloc; "sdc {}", name(file)),
         Task::Draw { file, histogram } => { format!(in alloc; "draw {} {histogram}", maybe(file)) }
+        Task::Table => format!(in alloc; "table"),
     };
     Ok(text?)
 }

@@ -42,6 +42,10 @@ const ROWS: &[(&str, &str)] = &[
         "mintcx sdc ring.cert --table t --unit ps",
         "sdc ring.cert; table t; false; Text Ps 10 - false Full Auto",
     ),
+    (
+        "mintcx table --netlist n.v --sdf d.sdf --lib c.lib --clock k.toml --clamp-negative -o n.table",
+        "table; n.v sdf d.sdf lib c.lib k.toml; true; Text Auto 10 n.table false Full Auto",
+    ),
     ("mintcx explain same-phase", "explain same-phase"),
     (
         "mintcx safe",

@@ -23,6 +23,7 @@ const ANSWERS: &[(&str, &str)] = &[
     ("mintcx schedule --help", help::HELP_SCHEDULE),
     ("mintcx sdc --help", help::HELP_SDC),
     ("mintcx draw --help", help::HELP_DRAW),
+    ("mintcx table --help", help::HELP_TABLE),
     ("mintcx explain --help", help::HELP_EXPLAIN),
     ("mintcx --version", "mintcx 0.1.0\n"),
     ("mintcx -V", "mintcx 0.1.0\n"),

@@ -166,7 +166,7 @@ const TABLE: Rows = Rows {
         ),
         (
             "mintcx draw --format json",
-            "3||error: '--format json' isn't there for 'schedule', 'sdc', 'draw', '--histogram' and \
+            "3||error: '--format json' isn't there for 'schedule', 'sdc', 'draw', 'table', '--histogram' and \
              '--certificate'\n|",
         ),
         (

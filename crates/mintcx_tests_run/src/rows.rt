@@ -316,6 +316,22 @@ times in fs
 /// A project file of a table.
 pub(crate) const PROJECT: &str = "[design]\ntable = \"two.table\"\n";
 
+/// The table of the table.
+const TABLE_OF_TABLE: &str = "0|table 3
+phases 2
+phase phi1
+phase phi2
+elements 2
+element a 1 latch 10 - 10 10 10 10 0
+element b 2 latch 10 - 10 10 10 10 0
+inner 0
+arcs 2
+arc q0 d1 20 20
+arc q1 d0 60 60
+bounds 0
+end
+||";
+
 /// A table with its schedule and its certificate.
 const TABLE: Rows = Rows {
     files: &[
@@ -432,7 +448,8 @@ const TABLE: Rows = Rows {
         ),
         (
             "mintcx slack --histogram --format csv",
-            "3||error: '--format csv' isn't there for 'schedule', 'sdc', 'draw', '--histogram' and '--certificate'\n|",
+            "3||error: '--format csv' isn't there for 'schedule', 'sdc', 'draw', 'table', '--histogram' and \
+             '--certificate'\n|",
         ),
         (
             "mintcx check two.schedule --format csv",
@@ -442,6 +459,9 @@ const TABLE: Rows = Rows {
             "mintcx check fast.schedule --format csv",
             "1|kind,of,by\r\nloop,a b,20\r\n||",
         ),
+        ("mintcx table", TABLE_OF_TABLE),
+        ("mintcx table --format plain", TABLE_OF_TABLE),
+        ("mintcx table -q", "0|||"),
         ("mintcx sdc two.cert", CLOCKS),
         ("mintcx sdc two.cert --format plain", CLOCKS),
         ("mintcx sdc fast.schedule", FAIL),
@@ -459,6 +479,53 @@ const TABLE: Rows = Rows {
         ("mintcx check fast.schedule", FAIL),
     ],
 };
+
+/// The files as one table.
+const TABLE_OF_FILES: &str = "0|table 3
+phases 2
+phase p1
+phase p2
+elements 2
+element u1.l[0] 1 latch 10 - 10 10 10 10 0
+element u2.l[0] 2 latch 10 - 10 10 10 10 0
+inner 29
+arcs 27
+arc n3 n2 0 0
+arc n0 n5 0 0
+arc n3 n6 0 0
+arc n7 n4 0 0
+arc n6 n9 0 0
+arc n5 n10 0 0
+arc n11 n8 0 0
+arc n8 n12 0 0
+arc n14 n7 0 0
+arc n12 n15 0 0
+arc n16 n14 0 0
+arc n1 n17 0 0
+arc n4 n18 0 0
+arc n19 n3 0 0
+arc n18 n21 0 0
+arc n17 n22 0 0
+arc n23 n20 0 0
+arc n20 n24 0 0
+arc n26 n19 0 0
+arc n24 n27 0 0
+arc n28 n26 0 0
+arc n9 d0 0 0
+arc q0 n11 0 0
+arc n15 n16 20 20
+arc n21 d1 0 0
+arc q1 n23 0 0
+arc n27 n28 50 60
+bounds 0
+end
+|warning: 1 port of the top is in no list: 1 output
+ --> two.v:3:24
+3 | module two(phi1, phi2, y);
+  |                        ^ `y`
+  = why: no time is known there: paths from such inputs and to such outputs are not judged
+  = help: list them in the clock description, as `[[input]]` or `[[output]]` with a phase
+|";
 
 /// A netlist with delays, cells, a library and a clock.
 const FILES: Rows = Rows {
@@ -511,6 +578,10 @@ error[1]: this statement isn't structural Verilog
         (
             "mintcx optimise --netlist two.v --sdf two.sdf --lib two.lib --clock-cell X --clock clock.toml",
             "3||error: '--clock-cell X' names no cell of the library\n|",
+        ),
+        (
+            "mintcx table --netlist two.v --sdf two.sdf --cells two.toml --clock clock.toml",
+            TABLE_OF_FILES,
         ),
         (
             "mintcx schedule --netlist two.v --sdf low.sdf --cells two.toml --clock clock.toml --clamp-negative",

@@ -91,7 +91,7 @@ draw_job (Some file) false = job.Verify
 draw_job None false = job.Optimise
 
 -- the job of a task on one design; clocks and pictures are those of a certificate, where the file isn't a schedule's own
--- text
+-- text; a table is that of the design of an optimum
 abbrev pub job_of : Task → Result Job Gap
 job_of (task.Check schedule) = Ok job.Check
 job_of (task.Optimise certificate cycle) = Ok job.Optimise
@@ -103,6 +103,7 @@ job_of task.Corners = Err gap.Misfit
 job_of (task.Schedule certificate cycle) = Ok (schedule_job certificate)
 job_of (task.Sdc file) = Ok job.Verify
 job_of (task.Draw file histogram) = Ok (draw_job file histogram)
+job_of task.Table = Ok job.Optimise
 
 -- what of a task's command is told
 abbrev pub aspect_of : Task → Aspect
@@ -111,6 +112,7 @@ aspect_of (task.Slack true) = aspect.Histogram
 aspect_of (task.Schedule certificate cycle) = aspect.Schedule cycle
 aspect_of (task.Sdc file) = aspect.Clocks
 aspect_of (task.Draw file histogram) = aspect.Picture
+aspect_of task.Table = aspect.Table
 aspect_of what = aspect.Whole
 
 -- the source of a design with these cells: a library with gates that carry the clock is described
@@ -170,8 +172,8 @@ abbrev pub is_certified : Task → Bool
 is_certified (task.Optimise (Some name) cycle) = true
 is_certified what = false
 
--- what mintc has no text for, and a certificate beside its text, which is one; a schedule has one text alone, in
--- mintc's form, and so have clocks, as SDC, and pictures, as SVG
+-- what mintc has no text for, and a certificate beside its text, which is one; a schedule and a table have one text
+-- alone, in mintc's form, and so have clocks, as SDC, and pictures, as SVG
 abbrev pub plain_gap : Bool → Aspect → Option Gap
 plain_gap true told = Some gap.Certificate
 plain_gap false (aspect.Cycle cycle) = Some gap.Cycle

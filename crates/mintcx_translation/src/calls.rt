@@ -41,6 +41,8 @@ pub enum Aspect {
     /// A picture as SVG: of `check` how the schedule fares, of `optimise` and `verify` the schedule with the chain that
     /// decides, of `slack` the pairs counted by their slack.
     Picture,
+    /// Of `optimise`: the design as one table.
+    Table,
 }
 
 /// A command of mintc, what of it is told, and the names of its files, in their order. Where `of_library` is set, the
@@ -301,6 +303,7 @@ fn job_of(task: &Task) -> Result<Job, Gap>
         } => Ok(Job::Slack),
         Task::Draw { file: Some(_), .. } => Ok(Job::Verify),
         Task::Draw { file: None, .. } => Ok(Job::Optimise),
+        Task::Table => Ok(Job::Optimise),
     }
 }
 
@@ -317,6 +320,7 @@ fn aspect_of(task: &Task) -> Aspect
         Task::Schedule { cycle, .. } => Aspect::Schedule(*cycle),
         Task::Sdc { .. } => Aspect::Clocks,
         Task::Draw { .. } => Aspect::Picture,
+        Task::Table => Aspect::Table,
         _ => Aspect::Whole,
     }
 }
@@ -479,7 +483,7 @@ fn has_data(task: &Task) -> bool
         Task::Slack { histogram } => !*histogram,
         Task::Check { .. } | Task::Verify { .. } | Task::Report | Task::Safe | Task::Corners =>
             true,
-        Task::Schedule { .. } | Task::Sdc { .. } | Task::Draw { .. } => false,
+        Task::Schedule { .. } | Task::Sdc { .. } | Task::Draw { .. } | Task::Table => false,
     }
 }
 
@@ -492,6 +496,7 @@ fn plain_gap(certified: bool, aspect: Aspect) -> Option<Gap>
     }
     match aspect {
         Aspect::Whole | Aspect::Schedule(_) | Aspect::Clocks | Aspect::Picture => None,
+        Aspect::Table => None,
         Aspect::Rows | Aspect::CycleRows(_) | Aspect::Object | Aspect::CycleObject(_) => None,
         Aspect::Cycle(_) => Some(Gap::Cycle),
         Aspect::Histogram => Some(Gap::Histogram),

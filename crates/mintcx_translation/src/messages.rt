@@ -9,10 +9,10 @@ impl Gap {
     fn text(self) -> &'static str {
         match self {
             Gap::Json => {
-                "'--format json' isn't there for 'schedule', 'sdc', 'draw', '--histogram' and '--certificate'"
+                "'--format json' isn't there for 'schedule', 'sdc', 'draw', 'table', '--histogram' and '--certificate'"
             }
             Gap::Csv => {
-                "'--format csv' isn't there for 'schedule', 'sdc', 'draw', '--histogram' and '--certificate'"
+                "'--format csv' isn't there for 'schedule', 'sdc', 'draw', 'table', '--histogram' and '--certificate'"
             }
             Gap::Cycle => "'--cycle' has no plain form; '--format text' has one",
             Gap::Certificate => {

@@ -14,8 +14,8 @@ use Rattle.clap.specs.declared.builder.command.Command.TheViews.{out-Command}
 use Rattle.clap.specs.declared.builder.command.Command.TheOpen.{Command-F}
 use Rattle.clap.specs.declared.error.Error.{Error}
 use Rattle.clap.specs.declared.parser.matches.ArgMatches.{ArgMatches}
-use Rattle.mintcx_manners.specs.Commands.{word_of}
-use Rattle.mintcx_manners.specs.declared.commands.Asked.{Asked}
+use Rattle.mintcx_requests.specs.Commands.{word_of}
+use Rattle.mintcx_requests.specs.declared.commands.Asked.{Asked}
 use Rattle.mintcx_words.specs.CommandLine.{aliases_of, bare, program_of, with_rules}
 use Rattle.mintcx_words.specs.Lines.{AreLocal, IsCommandLine, IsParse}
 use Rattle.mintcx_words.specs.declared.command_line.Choices.{Choices}

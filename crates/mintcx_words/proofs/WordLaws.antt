@@ -16,7 +16,7 @@ use Rattle.clap.specs.declared.parser.matches.ArgMatches.TheViews.{out-ArgMatche
 use Rattle.clap.specs.declared.parser.matches.SubCommand.{SubCommand}
 use Rattle.clap.specs.declared.parser.matches.Found.{Found}
 use Rattle.clap.proofs.WalkLemmas.{find_row, first_value-rows, raw_values-rows}
-use Rattle.mintcx_manners.specs.Commands.{command_named}
+use Rattle.mintcx_requests.specs.Commands.{command_named}
 use Rattle.mintcx_words.specs.Given.{given_by, given_of, source_at}
 use Rattle.mintcx_words.specs.Misread.{IsAsking, IsMisread, Misreads}
 use Rattle.mintcx_words.specs.declared.words.Misread.{Misread}

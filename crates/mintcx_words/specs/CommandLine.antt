@@ -4,11 +4,11 @@ use Rattle.clap.specs.Words.{App, Rule, Text, new_app, new_rule, with_rule, with
 use Rattle.clap.specs.declared.builder.action.ArgAction.TheVariants.{Append, SetTrue}
 use Rattle.clap.specs.declared.builder.value_parser.ValueParser.TheVariants as parser
 use Rattle.std.specs.Borrow.{Bor}
-use Rattle.mintcx_manners.specs.declared.commands.Asked.{Asked}
-use Rattle.mintcx_manners.specs.declared.commands.Asked.TheVariants.{Check, Optimise, Verify, Slack, Schedule}
-use Rattle.mintcx_manners.specs.declared.commands.Asked.TheVariants.{Sdc, Draw, Explain}
+use Rattle.mintcx_requests.specs.declared.commands.Asked.{Asked}
+use Rattle.mintcx_requests.specs.declared.commands.Asked.TheVariants.{Check, Optimise, Verify, Slack, Schedule}
+use Rattle.mintcx_requests.specs.declared.commands.Asked.TheVariants.{Sdc, Draw, Explain}
 use Rattle.mintcx_words.specs.declared.command_line.Choices.{Choices}
-use Rattle.mintcx_manners.specs.Commands.{commands, has_rows, has_table, word_of}
+use Rattle.mintcx_requests.specs.Commands.{commands, has_rows, has_table, word_of}
 
 -- ---- arguments
 

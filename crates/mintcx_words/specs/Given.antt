@@ -5,13 +5,13 @@ use Rattle.std.specs.Option.{option_map_or}
 use Rattle.clap.specs.Words.{Row, Text, first_of, all_of}
 use Rattle.clap.specs.declared.parser.matches.ValueSource.{ValueSource}
 use Rattle.clap.specs.declared.parser.matches.ValueSource.TheVariants.{DefaultValue, CommandLine}
-use Rattle.mintcx_manners.specs.declared.commands.Asked.{Asked}
+use Rattle.mintcx_requests.specs.declared.commands.Asked.{Asked}
 use Rattle.mintcx_manners.specs.declared.manners.TimeUnit.{TimeUnit}
 use Rattle.mintcx_project.specs.declared.sources.Sources.{Sources}
 use Rattle.mintcx_requests.specs.declared.given.MannerWords.{MannerWords}
 use Rattle.mintcx_requests.specs.declared.given.Particulars.{Particulars}
 use Rattle.mintcx_requests.specs.declared.given.Given.{Given}
-use Rattle.mintcx_manners.specs.Commands.{command_named}
+use Rattle.mintcx_requests.specs.Commands.{command_named}
 use Rattle.mintcx_manners.specs.Manners.{format_of, unit_of, detail_of, color_of}
 
 -- all values of an option, none where it isn't used

@@ -9,7 +9,7 @@ ghost use Rattle.mintcx_words.specs.CommandLine.{command_of, bare_program, with_
 ghost use Rattle.mintcx_words.specs.Lines.{AreLocal, AreRules, IsCommandLine, IsParse};
 
 use clap::{Arg, ArgAction, ArgMatches, Command, Error};
-use mintcx_manners::{Asked, COMMANDS};
+use mintcx_requests::{Asked, COMMANDS};
 use std::alloc::{AllocError, Global};
 
 /// The words that some options take.
@@ -363,7 +363,7 @@ fn own_args<'a>(alloc: Global, asked: Asked) -> Result<Vec<Arg<'a>>, AllocError>
         Asked::Sdc => lone_subject(alloc, "SCHEDULE", "A schedule or a certificate"),
         Asked::Draw => draw_args(alloc),
         Asked::Explain => lone_subject(alloc, "NUMBER", "The number in `error[NUMBER]`"),
-        Asked::Report | Asked::Safe | Asked::Corners => Ok(Vec::new(alloc)),
+        Asked::Report | Asked::Safe | Asked::Corners | Asked::Table => Ok(Vec::new(alloc)),
     }
 }
 
@@ -396,6 +396,7 @@ fn about(asked: Asked) -> &'static str {
         Asked::Draw => {
             "Draw the schedule with the chain that decides, or how a schedule of yours fares, as SVG"
         }
+        Asked::Table => "Write the design as one table, which mintc reads",
         Asked::Explain => "Explain a refusal at length",
     }
 }

@@ -4,7 +4,7 @@
 ghost use Rattle.std.specs.Prelude.{◌≡◌, IfOk, map, option_and_then, string_bytes};
 ghost use Rattle.clap.specs.Words.{App, found_of, first_of, kind_of, rows_of, subcommand_rows_of};
 ghost use Rattle.mintcx_words.specs.CommandLine.{IsProgram, program_of};
-ghost use Rattle.mintcx_manners.specs.Commands.{command_named};
+ghost use Rattle.mintcx_requests.specs.Commands.{command_named};
 ghost use Rattle.mintcx_words.specs.Given.{chosen_at, flag_at, values_at, unit_at, sources_at, manner_at};
 ghost use Rattle.mintcx_words.specs.Given.{particulars_at, given_by, given_of};
 ghost use Rattle.mintcx_words.specs.Misread.{IsMisread, IsReading};
@@ -14,9 +14,9 @@ use clap::error::ErrorKind;
 use clap::parser::ValueSource;
 use clap::{ArgMatches, Error};
 use mintc_text::{Name, Names, OutOfMemory};
-use mintcx_manners::{Asked, COMMANDS, Color, Detail, Format, TimeUnit};
+use mintcx_manners::{Color, Detail, Format, TimeUnit};
 use mintcx_project::Sources;
-use mintcx_requests::{Given, MannerWords, Particulars};
+use mintcx_requests::{Asked, COMMANDS, Given, MannerWords, Particulars};
 use std::alloc::Global;
 
 /// Why words gave nothing.

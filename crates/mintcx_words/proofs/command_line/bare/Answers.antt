@@ -5,7 +5,7 @@ use Rattle.clap.specs.Words.{app_of, new_app}
 use Rattle.clap.specs.declared.builder.command.Command.{Command}
 use Rattle.clap.specs.declared.builder.command.Command.TheOpen.{Command-F}
 use Rattle.clap.specs.declared.builder.command.Command.TheViews.{out-Command}
-use Rattle.mintcx_manners.specs.Commands.{word_of}
+use Rattle.mintcx_requests.specs.Commands.{word_of}
 use Rattle.mintcx_words.specs.CommandLine.{aliases_of}
 use Rattle.mintcx_words.proofs.LineLaws.{named}
 use Rattle.mintcx_words.proofs.command_line.bare.Goals as goal

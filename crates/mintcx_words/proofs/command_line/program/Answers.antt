@@ -1,8 +1,8 @@
 use Rattle.std.proofs.Common.{◌∙◌, ◌+◌, ap, sym, drop}
 use Rattle.std.specs.List.{fold}
 use Rattle.clap.specs.Words.{App, app_of}
-use Rattle.mintcx_manners.specs.declared.commands.Asked.TheVariants.{Check}
-use Rattle.mintcx_manners.specs.declared.commands.TheConstants.{COMMANDS}
+use Rattle.mintcx_requests.specs.declared.commands.Asked.TheVariants.{Check}
+use Rattle.mintcx_requests.specs.declared.commands.TheConstants.{COMMANDS}
 use Rattle.mintcx_words.specs.CommandLine.{with_command}
 use Rattle.mintcx_words.proofs.LineLaws.{fold_done, fold_on}
 use Rattle.mintcx_words.proofs.command_line.program.Goals as goal

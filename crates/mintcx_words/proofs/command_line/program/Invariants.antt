@@ -3,7 +3,7 @@ use Rattle.std.specs.List.{fold}
 use Rattle.clap.specs.Words.{app_of}
 use Rattle.clap.specs.declared.builder.command.Command.TheViews.{out-Command}
 use Rattle.mintcx_words.specs.CommandLine.{program_of, with_command}
-use Rattle.mintcx_manners.specs.declared.commands.TheConstants.{COMMANDS}
+use Rattle.mintcx_requests.specs.declared.commands.TheConstants.{COMMANDS}
 use Rattle.mintcx_words.proofs.command_line.program.Given as goal
 
 -- with the commands that are left it is the program

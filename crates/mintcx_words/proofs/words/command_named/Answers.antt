@@ -1,9 +1,9 @@
 use Rattle.std.proofs.Common.{◌≡◌, ◌∙◌, ap, sym, false, get_or}
 use Rattle.std.specs.Prelude.{bytes_eq}
-use Rattle.mintcx_manners.specs.Commands.{word_of}
-use Rattle.mintcx_manners.specs.declared.commands.Asked.{Asked}
-use Rattle.mintcx_manners.specs.declared.commands.Asked.TheVariants.{Check}
-use Rattle.mintcx_manners.specs.declared.commands.TheConstants.{COMMANDS}
+use Rattle.mintcx_requests.specs.Commands.{word_of}
+use Rattle.mintcx_requests.specs.declared.commands.Asked.{Asked}
+use Rattle.mintcx_requests.specs.declared.commands.Asked.TheVariants.{Check}
+use Rattle.mintcx_requests.specs.declared.commands.TheConstants.{COMMANDS}
 use Rattle.mintcx_words.proofs.WordLaws.{find_passes}
 use Rattle.mintcx_words.proofs.words.command_named.Goals as goal
 

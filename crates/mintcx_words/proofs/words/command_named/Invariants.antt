@@ -1,7 +1,7 @@
 use Rattle.std.proofs.Common.{◌≡◌, drop}
 use Rattle.std.specs.Prelude.{bytes_eq, find}
-use Rattle.mintcx_manners.specs.Commands.{command_named, word_of}
-use Rattle.mintcx_manners.specs.declared.commands.TheConstants.{COMMANDS}
+use Rattle.mintcx_requests.specs.Commands.{command_named, word_of}
+use Rattle.mintcx_requests.specs.declared.commands.TheConstants.{COMMANDS}
 use Rattle.mintcx_words.proofs.words.command_named.Given as goal
 
 -- it is among the commands that are left
