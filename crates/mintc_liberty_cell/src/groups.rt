@@ -54,7 +54,7 @@ pub fn group_at<'a>(reader: &Reader<'a>) -> Option<Group<'a>>
 }
 
 /// Passes the statements up to the next group, and that one.
-pub(crate) fn next_group<'a>(reader: &mut Reader<'a>, room: u32) -> Option<Group<'a>>
+pub fn next_group<'a>(reader: &mut Reader<'a>, room: u32) -> Option<Group<'a>>
     ensures none { IfNone result (groups (front room reader.old).statements ≡ []) }
     ensures some { IfSome result (λ g. groups (front room reader.old).statements ≡ group_seen (room - 1) g ∷
         groups (front room reader.new).statements) }
@@ -72,7 +72,7 @@ pub(crate) fn next_group<'a>(reader: &mut Reader<'a>, room: u32) -> Option<Group
 }
 
 /// Passes the items up to the next name, and that one.
-pub(crate) fn next_name<'a>(items: &mut Reader<'a>) -> Option<&'a [u8]>
+pub fn next_name<'a>(items: &mut Reader<'a>) -> Option<&'a [u8]>
     ensures none { IfNone result (names_in (taken is_item items.old) ≡ []) }
     ensures some { IfSome result (λ name. names_in (taken is_item items.old) ≡ name.now ∷
         names_in (taken is_item items.new)) }

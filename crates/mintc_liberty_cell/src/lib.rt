@@ -19,4 +19,5 @@ mod pins;
 mod values;
 
 pub use cells::cell_of;
-pub use groups::{Group, body, group_at, only_name};
+pub use groups::{Group, body, group_at, next_group, next_name, only_name};
+pub use values::{is_text, last_value, says};

@@ -47,7 +47,7 @@ fn later<'a>(found: Option<Reader<'a>>, next: Option<Found<'a>>, name: &[u8]) ->
 }
 
 /// What begins with the value of the last attribute of a name, directly in the group that the reader stands in.
-pub(crate) fn last_value<'a>(inside: &Reader<'a>, name: &[u8], room: u32) -> Option<Reader<'a>>
+pub fn last_value<'a>(inside: &Reader<'a>, name: &[u8], room: u32) -> Option<Reader<'a>>
     ensures { option_map value_bytes result ≡ last_value name.now (front room inside.now).statements }
 {
     let mut reader = inside.copy();
@@ -62,7 +62,7 @@ pub(crate) fn last_value<'a>(inside: &Reader<'a>, name: &[u8], room: u32) -> Opt
 }
 
 /// Whether a value's bytes are a text.
-fn is_text(value: &Reader, text: &[u8]) -> bool
+pub fn is_text(value: &Reader, text: &[u8]) -> bool
     ensures { result ≡ bytes_eq (value_bytes value.now) text.now }
 {
     let mut reader = value.copy();
@@ -81,7 +81,7 @@ fn is_text(value: &Reader, text: &[u8]) -> bool
 }
 
 /// Whether the last attribute of a name, directly in the group that the reader stands in, has this value.
-pub(crate) fn says(inside: &Reader, name: &[u8], text: &[u8], room: u32) -> bool
+pub fn says(inside: &Reader, name: &[u8], text: &[u8], room: u32) -> bool
     ensures { result ≡ says name.now text.now (front room inside.now).statements }
 {
     match last_value(inside, name, room) {

@@ -7,7 +7,7 @@ use Rattle.mintc_sdf_tokens.specs.Items.{Items, items}
 use Rattle.mintc_sdf.specs.Forms.{Claim, claim, list_at, inner_def}
 use Rattle.mintc_sdf_tokens.specs.Reading.{after_opening, inside}
 use Rattle.mintc_sdf.specs.Keeping.{IsClaim}
-use Rattle.mintc_sdf.proofs.CellLaws.{at-bad, at-some}
+use Rattle.mintc_sdf.proofs.SharedListLaws.{at-bad, at-some}
 
 abbrev pub shown : {A : Type 0} → List Token → Option (A × Items) → Option (A × List Token)
 shown rest None = None

@@ -8,7 +8,7 @@ use mintc_sdf_tokens::Reader;
 use mintc_text::ReadError;
 
 /// Passes the word that has to come next.
-pub(crate) fn read_word<'a>(reader: &mut Reader<'a>) -> Result<&'a [u8], ReadError>
+pub fn read_word<'a>(reader: &mut Reader<'a>) -> Result<&'a [u8], ReadError>
     ensures { MatchResult result (λ w. word_at reader.old ≡ Some (w.now, reader.new))
         (Halts (word_at reader.old ≡ None)) }
 {
@@ -24,7 +24,7 @@ pub(crate) fn read_string<'a>(reader: &mut Reader<'a>) -> Result<&'a [u8], ReadE
 }
 
 /// Passes the opening parenthesis that has to come next.
-pub(crate) fn read_opening(reader: &mut Reader) -> Result<(), ReadError>
+pub fn read_opening(reader: &mut Reader) -> Result<(), ReadError>
     ensures { MatchResult result (λ _. after_opening reader.old ≡ Some reader.new)
         (Halts (after_opening reader.old ≡ None)) }
 {

@@ -13,7 +13,7 @@ use Rattle.mintc_sdf.specs.Forms.{with_items, list_at}
 use Rattle.mintc_sdf_edges.specs.declared.delays.Edges.{Edges}
 use Rattle.mintc_sdf_edges.specs.Edges.{inner_edge, last_edge, edge_at}
 use Rattle.mintc_sdf_edges.specs.Telling.{Progress, item, last_item, lone_item}
-use Rattle.mintc_sdf_edges.proofs.ListLaws.{at-bad, at-some}
+use Rattle.mintc_sdf.proofs.SharedListLaws.{at-bad, at-some}
 
 -- what an item gives, and what is left behind it
 abbrev pub first_of : {A : Type 0} → A × Items → A

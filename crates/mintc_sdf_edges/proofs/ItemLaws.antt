@@ -9,7 +9,7 @@ use Rattle.mintc_sdf.specs.Forms.{scale_of}
 use Rattle.mintc_sdf_edges.specs.declared.delays.Edges.{Edges}
 use Rattle.mintc_sdf_edges.specs.Spans.{Span, value_spans}
 use Rattle.mintc_sdf_edges.specs.Telling.{Progress, keep_all, has_one_port, has_two_ports, heading, said, with_scale, plain, item, last_item, lone_item}
-use Rattle.mintc_sdf_edges.proofs.ListLaws.{at-goes}
+use Rattle.mintc_sdf.proofs.SharedListLaws.{at-goes}
 
 -- ports and values
 module _ (p : Progress) (key : List ℕ) (two : Bool) (ports : two ≡ has_two_ports key) (ts : List Token) where

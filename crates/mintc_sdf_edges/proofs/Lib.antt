@@ -1,9 +1,6 @@
 mod CarriedLaws
-mod ListLaws
 mod ConditionLaws
 mod PortLaws
-mod ScaleLaws
-mod RoundLaws
 mod SpanLaws
 mod TellingLaws
 mod ItemLaws

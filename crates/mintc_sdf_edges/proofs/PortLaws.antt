@@ -9,7 +9,7 @@ use Rattle.mintc_sdf_tokens.proofs.SharedInsideLaws.{no-leaf, no-list, word-next
 use Rattle.mintc_sdf_edges.specs.declared.delays.Edges.{Edges}
 use Rattle.mintc_sdf_edges.specs.Edges.{both_edges, edge_of, inner_edge, last_edge, edge_at}
 use Rattle.mintc_sdf_edges.specs.Telling.{heading}
-use Rattle.mintc_sdf_edges.proofs.ListLaws.{at-bad, at-some}
+use Rattle.mintc_sdf.proofs.SharedListLaws.{at-bad, at-some}
 
 -- a port that comes next
 pub port-word : (ts next : List Token) (w : List ℕ) → word_at ts ≡ Some (w, next) → (edge_at (items ts) ≡ Some (both_edges, items next)) × (after next ≡ after ts)

@@ -2,32 +2,9 @@
 ghost use Rattle.std.specs.Prelude.{◌≡◌, IfOk};
 ghost use Rattle.mintc_sdf_edges.specs.Telling.{with_span};
 
-use mintc_sdf::{Delay, Place, Subject};
-use mintc_text::{Names, OutOfMemory};
+use mintc_sdf::{Delay, Subject, names_copy, place_copy};
+use mintc_text::OutOfMemory;
 use std::alloc::Global;
-
-/// Copies names.
-fn names_copy(alloc: Global, names: &Names) -> Result<Names, OutOfMemory>
-    ensures { IfOk result (λ copy. copy ≡ names.now) }
-{
-    let items = names.items();
-    let mut out = Vec::with_capacity(alloc, items.len())?;
-    for name in items {
-        out.push(name.copy(alloc)?)?;
-    }
-    Ok(Names::new(out))
-}
-
-/// Copies a place.
-fn place_copy(alloc: Global, place: &Place) -> Result<Place, OutOfMemory>
-    ensures { IfOk result (λ copy. copy ≡ place.now) }
-{
-    match place {
-        Place::Top => Ok(Place::Top),
-        Place::Every => Ok(Place::Every),
-        Place::Path(names) => Ok(Place::Path(names_copy(alloc, names)?)),
-    }
-}
 
 /// Copies a subject.
 fn subject_copy(alloc: Global, subject: &Subject) -> Result<Subject, OutOfMemory>

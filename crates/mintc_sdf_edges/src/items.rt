@@ -1,17 +1,17 @@
 //! Lists whose keyword says what they tell.
-ghost use Rattle.std.specs.Prelude.{◌≡◌, ◌≤◌, ◌^◌, ◌||◌, true, List, Some, None, IfSome, IfNone, MatchResult};
+ghost use Rattle.std.specs.Prelude.{◌≡◌, ◌||◌, true, List, Some, None, MatchResult};
 ghost use Rattle.mintc_text.specs.ReadErrors.{Halts};
 ghost use Rattle.mintc_sdf_tokens.specs.Tokens.{Token};
 ghost use Rattle.mintc_sdf_tokens.specs.Reading.{inside};
 ghost use Rattle.mintc_sdf_tokens.specs.Conditions.{condition_at};
-ghost use Rattle.mintc_sdf.specs.Forms.{scale_of};
 ghost use Rattle.mintc_sdf_edges.specs.Telling.{has_one_port, has_two_ports, said, plain, item};
 
-use crate::demands::{pass_rest, read_opening, read_word};
+use crate::demands::pass_rest;
 use crate::ports::heading;
 use crate::spans::{Span, values};
 use crate::telling::Telling;
-use mintc_sdf_tokens::{Layer, Reader, innermost, is_key, product, time_of, times_of, unit_of};
+use mintc_sdf::{read_opening, read_word, scale_of};
+use mintc_sdf_tokens::{Layer, Reader, innermost, is_key};
 use mintc_text::ReadError;
 use std::alloc::Global;
 
@@ -55,24 +55,6 @@ fn said(
     let edge = heading(reader, alloc, has_two_ports(key))?;
     values(reader, telling.scale(), spans)?;
     telling.keep_all(alloc, is_key(key, b"SETUPHOLD"), edge, spans)
-}
-
-/// The scale of a TIMESCALE, to the parenthesis that closes it.
-fn scale_of(reader: &mut Reader) -> Option<u64>
-    ensures none { IfNone result (inside scale_of reader.old ≡ None) }
-    ensures some { IfSome result (λ n. inside scale_of reader.old ≡ Some (n, reader.new)) }
-    ensures most { IfSome result (λ n. (1 ≤ n) × (n ≤ 10 ^ 11)) }
-{
-    let first = reader.word()?;
-    if reader.close() {
-        return time_of(first);
-    }
-    let second = reader.word()?;
-    if reader.close() {
-        product(times_of(first), unit_of(second))
-    } else {
-        None
-    }
 }
 
 /// Passes a list that is no condition, of which the keyword was read, and tells what it says.

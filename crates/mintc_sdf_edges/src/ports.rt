@@ -10,7 +10,8 @@ ghost use Rattle.mintc_sdf_edges.specs.Telling.{heading};
 
 use crate::Edges;
 use crate::delays::{both_edges, falling, rising};
-use crate::demands::{pass_rest, read_opening, read_word};
+use crate::demands::pass_rest;
+use mintc_sdf::{read_opening, read_word};
 use mintc_sdf_tokens::{Reader, condition, innermost, is_key};
 use mintc_text::ReadError;
 use std::alloc::Global;

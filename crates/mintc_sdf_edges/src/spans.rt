@@ -1,17 +1,14 @@
 //! The numbers of values.
-ghost use Rattle.std.specs.Prelude.{◌≡◌, ◌≤◌, ◌^◌, ◌++◌, ◌∷◌, [], length, true, false, Some, None, OnOk, MatchResult};
-ghost use Rattle.std.specs.Prelude.{MatchOption};
+ghost use Rattle.std.specs.Prelude.{◌≡◌, ◌≤◌, ◌^◌, ◌++◌, ◌∷◌, [], Some, None, OnOk, MatchResult};
 ghost use Rattle.mintc_text.specs.ReadErrors.{Halts};
 ghost use Rattle.mintc_decimal.specs.DecimalValue.{value_of};
 ghost use Rattle.mintc_sdf_tokens.specs.Reading.{inside};
 ghost use Rattle.mintc_sdf.specs.Forms.{parts_of};
-ghost use Rattle.mintc_sdf.specs.Numbers.{is_far, rounded_down, rounded_up};
-ghost use Rattle.mintc_sdf.specs.Values.{colon_size};
 ghost use Rattle.mintc_sdf_edges.specs.Spans.{wider, wider_of, number_span, part_span, parts_span, value_span};
 ghost use Rattle.mintc_sdf_edges.specs.Spans.{value_spans};
 
-use crate::demands::{read_opening, read_word};
 use mintc_decimal::Decimal;
+use mintc_sdf::{colon_size, read_opening, read_word, round_both_ways};
 use mintc_sdf_tokens::Reader;
 use mintc_text::{OutOfMemory, ReadError};
 use mintc_text_scan::rest_from;
@@ -30,17 +27,6 @@ fn wider(one: Span, other: Span) -> Span
         Some((low, high)) => Some((least.min(low), greatest.max(high))),
         None => one,
     }
-}
-
-/// A number rounded down and up. None where it is above 10^9 femtoseconds in absolute value.
-fn round_both_ways(number: &Decimal, scale: u64) -> Option<(i64, i64)>
-    requires least { 1 ≤ scale }
-    requires most { scale ≤ 10 ^ 11 }
-    ensures { MatchOption result (is_far scale (value_of number.now) ≡ true)
-        (λ r. (is_far scale (value_of number.now) ≡ false) × (r.0 ≡ rounded_down scale (value_of number.now))
-        × (r.1 ≡ rounded_up scale (value_of number.now))) }
-{
-    number.to_femto_both(scale)
 }
 
 /// The span of a number. None where it is too far from 0.
@@ -68,17 +54,6 @@ fn part_span(bytes: &[u8], scale: u64) -> Option<Span>
         Some(number) => number_span(&number, scale),
         None => None,
     }
-}
-
-/// How many bytes stand before the first colon.
-fn colon_size(bytes: &[u8]) -> usize
-    ensures value { result ≡ colon_size bytes.now }
-    ensures within { result ≤ length bytes.now }
-{
-    bytes
-        .iter()
-        .position(|byte| *byte == b':')
-        .unwrap_or(bytes.len())
 }
 
 /// The wider of two spans, where both are there.

@@ -14,13 +14,12 @@ ghost use Rattle.mintc_sdf_edges.specs.Telling.{is_block, after_list};
 ghost use Rattle.mintc_sdf_edges.specs.Texts.{told_in, AreTold};
 ghost use Rattle.mintc_sdf_edges.specs.Walking.{spelled, after_rows, IsOn, IsEntered};
 
-use crate::demands::{read_opening, read_word};
 use crate::items::{conditional, plain};
 use crate::laws::delays_merge;
 use crate::spans::Span;
 use crate::telling::Telling;
 use crate::{EdgeDelayList, EdgeDelays};
-use mintc_sdf::{Delay, read_delays};
+use mintc_sdf::{Delay, read_delays, read_opening, read_word};
 use mintc_sdf_tokens::{Reader, TokenKind, condition, is_key, items_are_the_tokens};
 use mintc_text::{ReadError, Stop};
 use std::alloc::Global;

@@ -1,4 +1,4 @@
--- From one group to the next.
+-- What stands behind a name, and a text of no token.
 use Rattle.std.proofs.Common.{◌≡◌, ℕ, ◌-◌, List, [], None, refl, arith}
 use Rattle.mintc_text_scan.specs.Pieces.{tokens_from}
 use Rattle.mintc_liberty_tokens.specs.declared.reader.Kind.TheVariants as kind

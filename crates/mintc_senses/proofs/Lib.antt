@@ -1,5 +1,3 @@
-mod ValueLaws
-mod TextLaws
 mod WordLaws
 mod GroupLaws
 mod NoteLaws

@@ -6,10 +6,9 @@ ghost use Rattle.mintc_liberty_cell.specs.Meaning.{groups, last_value};
 ghost use Rattle.mintc_liberty_cell.specs.Seen.{group_seen};
 ghost use Rattle.mintc_senses.specs.Senses.{literal_sense, two_of, state_sense, through, keeper_sense};
 
-use crate::groups::next_name;
 use crate::values::value_of;
 use crate::words::{Cut, has_word};
-use mintc_liberty_cell::Group;
+use mintc_liberty_cell::{Group, next_name};
 use mintc_liberty_tokens::Reader;
 use mintc_senses_expressions::{Transitions, function_sense};
 use mintc_text::OutOfMemory;

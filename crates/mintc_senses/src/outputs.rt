@@ -7,10 +7,10 @@ ghost use Rattle.mintc_liberty_cell.specs.Seen.{group_seen};
 ghost use Rattle.mintc_senses.specs.Senses.{is_pin_of, pin_inside, function_in, by_function, gate_sense};
 ghost use Rattle.mintc_senses.specs.Seen.{inside_or_none};
 
-use crate::groups::{has_name, next_group};
+use crate::groups::has_name;
 use crate::timings::by_timing;
-use crate::values::{says, value_of};
-use mintc_liberty_cell::Group;
+use crate::values::value_of;
+use mintc_liberty_cell::{Group, next_group, says};
 use mintc_liberty_tokens::Reader;
 use mintc_senses_expressions::{Transitions, function_sense};
 use mintc_text::OutOfMemory;

@@ -12,9 +12,8 @@ ghost use Rattle.mintc_liberty.specs.Meaning.{cell_in, cells_in};
 ghost use Rattle.mintc_senses.specs.Senses.{library_inside, cell_inside};
 ghost use Rattle.mintc_senses.specs.Seen.{inside_seen};
 
-use crate::groups::next_group;
 use mintc_cells::Cells;
-use mintc_liberty_cell::{Group, only_name};
+use mintc_liberty_cell::{Group, next_group, only_name};
 use mintc_liberty_tokens::{Kind, Reader, eat_sign, item};
 use mintc_text::OutOfMemory;
 use std::alloc::Global;

@@ -8,10 +8,9 @@ ghost use Rattle.mintc_senses_expressions.specs.Transitions.{together, other_edg
 ghost use Rattle.mintc_senses.specs.Senses.{unate, to_rise, to_fall, by_type, timing_transitions, names_input};
 ghost use Rattle.mintc_senses.specs.Senses.{is_timing_of, by_timing};
 
-use crate::groups::next_group;
-use crate::values::{is_text, last_value, value_of};
+use crate::values::value_of;
 use crate::words::{Cut, has_word};
-use mintc_liberty_cell::Group;
+use mintc_liberty_cell::{Group, is_text, last_value, next_group};
 use mintc_liberty_tokens::Reader;
 use mintc_senses_expressions::Transitions;
 use mintc_text::OutOfMemory;

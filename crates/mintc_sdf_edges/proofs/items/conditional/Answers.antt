@@ -2,7 +2,7 @@ use Rattle.std.proofs.Common.{ap, ◌∙◌}
 use Rattle.std.proofs.lemmas.Option.{MatchOption-at_some, MatchOption-at_none}
 use Rattle.mintc_sdf_edges.specs.Telling.{item}
 use Rattle.mintc_sdf_edges.proofs.CarriedLaws.{carried, passed-on}
-use Rattle.mintc_sdf_edges.proofs.ListLaws.{at-none}
+use Rattle.mintc_sdf.proofs.SharedListLaws.{at-none}
 use Rattle.mintc_sdf_edges.proofs.ConditionLaws.{shown, plain-there, def-found, def-found_none, item-shown, item-hidden}
 use Rattle.mintc_sdf_edges.proofs.items.conditional.Goals as goal
 
