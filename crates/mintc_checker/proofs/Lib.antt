@@ -9,3 +9,5 @@ mod Arriving
 mod Pairing
 mod Fed
 mod Exact
+mod Placing
+mod Placed

@@ -5,3 +5,4 @@ pub mod Decided
 pub mod Trails
 pub mod Labels
 pub mod Judged
+pub mod Course

@@ -12,7 +12,7 @@ ghost use Rattle.mintc_checker.specs.Labels.{AreLabels};
 ghost use Rattle.mintc_checker.specs.Trails.{IsLastArrival};
 
 use crate::clocked_design::ClockedDesign;
-use crate::labels::{Labels, departure_at, label_in};
+use crate::labels::{LabelTable, departure_at, label_in};
 use mintc_timing::shift;
 use mintc_timing_links::{times_denominator, width};
 
@@ -34,7 +34,7 @@ fn later(last: Option<i64>, label: Option<i64>, add: i64) -> Option<i64>
 }
 
 /// When the last data arrives at an element, counted from the start of its phase; None where no trail leads to it.
-fn last_arrival(clocked: &ClockedDesign<'_>, labels: &[Labels], number: u32) -> Option<i64>
+fn last_arrival(clocked: &ClockedDesign<'_>, labels: &LabelTable, number: u32) -> Option<i64>
     requires number { number < length clocked.now.flat.now.elements }
     requires count { length labels.now ≡ 2 * length clocked.now.flat.now.elements + length clocked.now.flat.now.inner }
     requires timely { AreTimely labels.now }
@@ -66,7 +66,7 @@ fn opening(clocked: &ClockedDesign<'_>, number: u32) -> i64
 }
 
 /// When an element's data leaves, as the labels make it.
-fn late_departure(clocked: &ClockedDesign<'_>, labels: &[Labels], number: u32) -> i64
+fn late_departure(clocked: &ClockedDesign<'_>, labels: &LabelTable, number: u32) -> i64
     requires number { number < length clocked.now.flat.now.elements }
     requires count { length labels.now ≡ 2 * length clocked.now.flat.now.elements + length clocked.now.flat.now.inner }
     requires timely { AreTimely labels.now }
@@ -84,7 +84,12 @@ fn late_departure(clocked: &ClockedDesign<'_>, labels: &[Labels], number: u32) -
 }
 
 /// Whether an element's departure is what the labels make it.
-fn is_exact(clocked: &ClockedDesign<'_>, labels: &[Labels], departures: &[i64], number: u32) -> bool
+fn is_exact(
+    clocked: &ClockedDesign<'_>,
+    labels: &LabelTable,
+    departures: &[i64],
+    number: u32,
+) -> bool
     requires number { number < length clocked.now.flat.now.elements }
     requires labels { AreTimelyLabels clocked.now.flat.now clocked.now.schedule.now.den departures.now labels.now }
     ensures { Decides clocked.now.flat.now result (λ t. departure departures.now number
@@ -94,7 +99,11 @@ fn is_exact(clocked: &ClockedDesign<'_>, labels: &[Labels], departures: &[i64], 
 }
 
 /// Whether all departures are exact: the fourth test.
-pub(crate) fn are_exact(clocked: &ClockedDesign<'_>, labels: &[Labels], departures: &[i64]) -> bool
+pub(crate) fn are_exact(
+    clocked: &ClockedDesign<'_>,
+    labels: &LabelTable,
+    departures: &[i64],
+) -> bool
     requires elements { length departures.now ≡ length clocked.now.flat.now.elements }
     requires labels { AreTimelyLabels clocked.now.flat.now clocked.now.schedule.now.den departures.now labels.now }
     ensures { Decides clocked.now.flat.now result (λ t. AreExact t clocked.now.schedule.now departures.now) }
@@ -110,7 +119,7 @@ pub(crate) fn are_exact(clocked: &ClockedDesign<'_>, labels: &[Labels], departur
 /// Whether an element keeps its setup.
 fn keeps_setup(
     clocked: &ClockedDesign<'_>,
-    labels: &[Labels],
+    labels: &LabelTable,
     departures: &[i64],
     number: u32,
 ) -> bool
@@ -133,7 +142,7 @@ fn keeps_setup(
 /// Whether all elements keep their setups: the fifth test.
 pub(crate) fn keep_setups(
     clocked: &ClockedDesign<'_>,
-    labels: &[Labels],
+    labels: &LabelTable,
     departures: &[i64],
 ) -> bool
     requires labels { AreTimelyLabels clocked.now.flat.now clocked.now.schedule.now.den departures.now labels.now }

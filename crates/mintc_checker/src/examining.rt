@@ -12,7 +12,7 @@ use crate::arrivals::{are_exact, keep_setups};
 use crate::chain::{are_ring, is_stuck, is_tight};
 use crate::clocked_design::ClockedDesign;
 use crate::departing_design::DepartingDesign;
-use crate::labels::{Labels, labels_of};
+use crate::labels::{LabelTable, labels_of};
 use crate::schedule_tests::{feeds_table, has_counts, keeps_bounds, keeps_clock};
 use mintc_certificate::{Certificate, Member};
 use mintc_text::OutOfMemory;
@@ -23,7 +23,7 @@ use std::alloc::Global;
 fn first_of_schedule(
     clocked: &ClockedDesign<'_>,
     departures: &[i64],
-    labels: &[Labels],
+    labels: &LabelTable,
     fed: &[bool],
 ) -> Option<u32>
     requires counts { HasCounts clocked.now.flat.now clocked.now.schedule.now departures.now }

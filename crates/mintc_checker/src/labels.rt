@@ -4,20 +4,22 @@ ghost use Rattle.std.specs.Prelude.{unsigned_abs};
 ghost use Rattle.std.specs.Int.{int_max};
 ghost use Rattle.mintc_lanes.specs.Lanes.{lane_at, AreJoined, AreLanes};
 ghost use Rattle.mintc_timing.specs.Departures.{departure};
-ghost use Rattle.mintc_timing.specs.Limits.{IsDesign, IsTime};
+ghost use Rattle.mintc_timing.specs.Limits.{IsDelay, IsDesign, IsTime};
 ghost use Rattle.mintc_timing.specs.Order.{IsOrder};
 ghost use Rattle.mintc_certificate.specs.Ranges.{IsDeparture};
+ghost use Rattle.mintc_checker.specs.Course.{AreInside, ArePlacesOf, IsCourse, placed};
 ghost use Rattle.mintc_timing.specs.Design.{element_at};
 ghost use Rattle.mintc_checker.specs.Judged.{AreTimelyLabels};
 ghost use Rattle.mintc_checker.specs.Labels.{AreLabelsOf, IsStart, label_at, labels_at, IsAlong};
 
+use crate::course::{Course, Places, Step, course_of};
 use crate::departing_design::DepartingDesign;
-use crate::reading::arc_at_place;
 use mintc_lanes::{ABSENT, max_plus_row};
 use mintc_text::OutOfMemory;
 use mintc_timing::Order;
 use mintc_timing_links::times_denominator;
 use std::alloc::Global;
+use std::marker::Model;
 
 /// A label for each phase at a bit, in femtoseconds times a denominator; that of phase p in lane p - 1.
 #[derive(Clone, Copy)]
@@ -27,6 +29,45 @@ pub(crate) struct Labels {
 
 /// The labels where no trail leads.
 pub(crate) const NO_LABELS: Labels = Labels { lanes: [ABSENT; 8] };
+
+/// The labels at all bits, seen as their list.
+#[derive(Drop)]
+pub(crate) struct LabelTable {
+    /// For each bit the place of its labels.
+    places: Vec<u32>,
+    /// The labels at the places. Those at place 0 are of the bits to which no trail leads.
+    rows: Vec<Labels>,
+}
+
+impl Model for LabelTable {
+    ghost use Rattle.std.specs.Prelude.{List};
+    ghost use Rattle.mintc_checker.specs.declared.labels.Labels.{Labels};
+    ghost use Rattle.mintc_checker.specs.Course.{AreInside, placed};
+
+    ghost Value = { List Labels };
+
+    ghost view = { λ t. placed t.places.items t.rows.items };
+
+    ghost invariant = { λ t. AreInside t.places.items t.rows.items };
+}
+
+impl LabelTable {
+    /// The labels of bits at these places.
+    fn new(places: Vec<u32>, rows: Vec<Labels>) -> LabelTable
+        requires { AreInside places.items rows.items }
+        ensures { result ≡ placed places.items rows.items }
+    {
+        LabelTable { places, rows }
+    }
+
+    /// The labels at a bit.
+    fn at(&self, bit: usize) -> &Labels
+        requires { bit < length self.now }
+        ensures { result.now ≡ labels_at self.now bit }
+    {
+        &self.rows[self.places[bit] as usize]
+    }
+}
 
 /// What a lane holds, if it is present.
 fn lane_in(labels: &Labels, lane: usize) -> Option<i64>
@@ -38,12 +79,12 @@ fn lane_in(labels: &Labels, lane: usize) -> Option<i64>
 }
 
 /// The label in a lane at a bit, if some trail leads there.
-pub(crate) fn label_in(labels: &[Labels], bit: usize, lane: usize) -> Option<i64>
+pub(crate) fn label_in(labels: &LabelTable, bit: usize, lane: usize) -> Option<i64>
     requires bit { bit < length labels.now }
     requires lane { lane < 8 }
     ensures { result ≡ label_at labels.now bit lane }
 {
-    lane_in(&labels[bit], lane)
+    lane_in(labels.at(bit), lane)
 }
 
 /// The departure of an element; one past the end is 0.
@@ -71,116 +112,126 @@ fn output_time(departing: &DepartingDesign<'_>, number: u32) -> i64
         + times_denominator(departing.flat.element(number).dq_max, departing.den)
 }
 
-/// Begins a lane at a bit.
-fn begin(labels: &mut [Labels], bit: usize, lane: usize, time: i64)
-    requires bit { bit < length labels.old }
+/// Begins a lane at a place.
+fn begin(rows: &mut [Labels], place: usize, lane: usize, time: i64)
+    requires place { place < length rows.old }
     requires lane { lane < 8 }
     requires time { IsTime time }
-    ensures others { (other : ℕ) → other ≢ bit → labels_at labels.new other ≡ labels_at labels.old other }
-    ensures lanes { (other : ℕ) → other ≢ lane → label_at labels.new bit other ≡ label_at labels.old bit other }
-    ensures own { label_at labels.new bit lane ≡ Some time }
+    ensures others { (other : ℕ) → other ≢ place → labels_at rows.new other ≡ labels_at rows.old other }
+    ensures lanes { (other : ℕ) → other ≢ lane → label_at rows.new place other ≡ label_at rows.old place other }
+    ensures own { label_at rows.new place lane ≡ Some time }
 {
-    let at = &mut labels[bit];
+    let at = &mut rows[place];
     at.lanes[lane] = time;
 }
 
 /// Begins the lane of an element's phase at its output.
-fn begin_element(labels: &mut [Labels], departing: &DepartingDesign<'_>, number: u32)
+fn begin_element(rows: &mut [Labels], departing: &DepartingDesign<'_>, places: &Places, number: u32)
     requires number { number < length departing.now.flat.now.elements }
+    requires places { ArePlacesOf departing.now.flat.now places.now }
+    requires count { length rows.old ≡ places.now.given + 1 }
     requires labels { AreLabelsOf departing.now.flat.now departing.now.den departing.now.departures.now
-        (IsStart number) labels.old }
+        (IsStart number) (placed places.now.of_bits.items rows.old) }
     ensures { AreLabelsOf departing.now.flat.now departing.now.den departing.now.departures.now
-        (IsStart (number + 1)) labels.new }
+        (IsStart (number + 1)) (placed places.now.of_bits.items rows.new) }
 {
     let lane = departing.flat.element(number).phase as usize - 1;
     let time = output_time(departing, number);
-    begin(labels, 2 * number as usize + 1, lane, time);
+    let place = places.of_bits[2 * number as usize + 1];
+    begin(rows, place as usize, lane, time);
 }
 
 /// Makes the labels those of the empty paths.
-fn begin_all(labels: &mut [Labels], departing: &DepartingDesign<'_>)
-    requires count { length labels.old
-        ≡ 2 * length departing.now.flat.now.elements + length departing.now.flat.now.inner }
-    requires absent { (bit : ℕ) → bit < length labels.old → labels_at labels.old bit ≡ NO_LABELS }
+fn begin_all(rows: &mut [Labels], departing: &DepartingDesign<'_>, places: &Places)
+    requires places { ArePlacesOf departing.now.flat.now places.now }
+    requires count { length rows.old ≡ places.now.given + 1 }
+    requires absent { (row : ℕ) → row < length rows.old → labels_at rows.old row ≡ NO_LABELS }
     ensures labels { AreLabelsOf departing.now.flat.now departing.now.den departing.now.departures.now
-        (IsStart (length departing.now.flat.now.elements)) labels.new }
+        (IsStart (length departing.now.flat.now.elements)) (placed places.now.of_bits.items rows.new) }
     ensures design { IsDesign departing.now.flat.now }
 {
     for number in 0..departing.flat.element_count() {
-        begin_element(labels, departing, number);
+        begin_element(rows, departing, places, number);
     }
 }
 
-/// Carries the labels at one bit to another, with a number added to each.
-fn carry(labels: &mut [Labels], from: u32, to: u32, add: i64)
-    requires from { from < length labels.old }
-    requires to { to < length labels.old }
+/// Carries the labels at one place to another, with a number added to each.
+fn carry(rows: &mut [Labels], from: u32, to: u32, add: i64)
+    requires from { from < length rows.old }
+    requires to { to < length rows.old }
     requires add { unsigned_abs add ≤ 10 ^ 18 }
-    requires from_lanes { AreLanes (labels_at labels.old from).lanes }
-    requires to_lanes { AreLanes (labels_at labels.old to).lanes }
-    ensures others { (bit : ℕ) → bit ≢ to → labels_at labels.new bit ≡ labels_at labels.old bit }
-    ensures joined { AreJoined int_max (labels_at labels.old to).lanes (labels_at labels.old from).lanes add
-        (labels_at labels.new to).lanes }
+    requires from_lanes { AreLanes (labels_at rows.old from).lanes }
+    requires to_lanes { AreLanes (labels_at rows.old to).lanes }
+    ensures others { (place : ℕ) → place ≢ to → labels_at rows.new place ≡ labels_at rows.old place }
+    ensures joined { AreJoined int_max (labels_at rows.old to).lanes (labels_at rows.old from).lanes add
+        (labels_at rows.new to).lanes }
 {
-    let row = labels[from as usize].lanes;
-    let at = &mut labels[to as usize];
+    let row = rows[from as usize].lanes;
+    let at = &mut rows[to as usize];
     max_plus_row(&mut at.lanes, &row, add);
 }
 
-/// Carries the labels along the arc at a place of the order.
-fn carry_arc(labels: &mut [Labels], departing: &DepartingDesign<'_>, order: &Order, place: usize)
-    requires order { IsOrder departing.now.flat.now.arcs order.now }
-    requires place { place < length order.now }
-    requires labels { AreLabelsOf departing.now.flat.now departing.now.den departing.now.departures.now
-        (IsAlong order.now place) labels.old }
-    ensures { AreLabelsOf departing.now.flat.now departing.now.den departing.now.departures.now
-        (IsAlong order.now (place + 1)) labels.new }
+/// Carries the labels along a step.
+fn carry_step(rows: &mut [Labels], departing: &DepartingDesign<'_>, step: Step)
+    requires from { step.from < length rows.old }
+    requires to { step.to < length rows.old }
+    requires delay { IsDelay step.max }
+    requires from_lanes { AreLanes (labels_at rows.old step.from).lanes }
+    requires to_lanes { AreLanes (labels_at rows.old step.to).lanes }
+    ensures others { (place : ℕ) → place ≢ step.to → labels_at rows.new place ≡ labels_at rows.old place }
+    ensures joined { AreJoined int_max (labels_at rows.old step.to).lanes (labels_at rows.old step.from).lanes
+        (step.max *ℤ departing.now.den) (labels_at rows.new step.to).lanes }
 {
-    let arc = arc_at_place(departing.flat, order, place);
     carry(
-        labels,
-        arc.from,
-        arc.to,
-        times_denominator(arc.max, departing.den),
+        rows,
+        step.from,
+        step.to,
+        times_denominator(step.max, departing.den),
     );
 }
 
 /// Carries the labels along all arcs.
-fn carry_all(labels: &mut [Labels], departing: &DepartingDesign<'_>, order: &Order)
+fn carry_all(rows: &mut [Labels], departing: &DepartingDesign<'_>, order: &Order, course: &Course)
     requires order { IsOrder departing.now.flat.now.arcs order.now }
+    requires course { IsCourse departing.now.flat.now order.now course.now }
+    requires places { length rows.old ≡ course.now.places.given + 1 }
     requires labels { AreLabelsOf departing.now.flat.now departing.now.den departing.now.departures.now
-        (IsAlong order.now 0) labels.old }
+        (IsAlong order.now 0) (placed course.now.places.of_bits.items rows.old) }
     ensures { AreLabelsOf departing.now.flat.now departing.now.den departing.now.departures.now
-        (IsAlong order.now (length order.now)) labels.new }
+        (IsAlong order.now (length order.now)) (placed course.now.places.of_bits.items rows.new) }
 {
+    let _elements = departing.flat.elements();
     for place in 0..order.arcs().items().len() {
-        carry_arc(labels, departing, order, place);
+        carry_step(rows, departing, course.steps[place]);
     }
 }
 
 /// Makes the labels those of the design.
-fn fill(labels: &mut [Labels], departing: &DepartingDesign<'_>, order: &Order)
+fn fill(rows: &mut [Labels], departing: &DepartingDesign<'_>, order: &Order, course: &Course)
     requires order { IsOrder departing.now.flat.now.arcs order.now }
-    requires count { length labels.old
-        ≡ 2 * length departing.now.flat.now.elements + length departing.now.flat.now.inner }
-    requires absent { (bit : ℕ) → bit < length labels.old → labels_at labels.old bit ≡ NO_LABELS }
-    ensures { AreTimelyLabels departing.now.flat.now departing.now.den departing.now.departures.now labels.new }
+    requires course { IsCourse departing.now.flat.now order.now course.now }
+    requires places { length rows.old ≡ course.now.places.given + 1 }
+    requires absent { (row : ℕ) → row < length rows.old → labels_at rows.old row ≡ NO_LABELS }
+    ensures { AreTimelyLabels departing.now.flat.now departing.now.den departing.now.departures.now
+        (placed course.now.places.of_bits.items rows.new) }
 {
-    begin_all(labels, departing);
-    carry_all(labels, departing, order);
+    begin_all(rows, departing, &course.places);
+    carry_all(rows, departing, order, course);
 }
 
 /// The labels at all bits.
+#[tactic(auto, using(crate::proofs::Placed::AreInside_given))]
 pub(crate) fn labels_of(
     alloc: Global,
     departing: &DepartingDesign<'_>,
     order: &Order,
-) -> Result<Vec<Labels>, OutOfMemory>
+) -> Result<LabelTable, OutOfMemory>
     requires order { IsOrder departing.now.flat.now.arcs order.now }
     ensures { IfOk result
-        (λ labels. AreTimelyLabels departing.now.flat.now departing.now.den departing.now.departures.now labels.items) }
+        (AreTimelyLabels departing.now.flat.now departing.now.den departing.now.departures.now) }
 {
-    let mut labels = vec![in alloc; NO_LABELS; departing.flat.bit_count()]?;
-    fill(&mut labels, departing, order);
-    Ok(labels)
+    let course = course_of(alloc, departing.flat, order)?;
+    let mut rows = vec![in alloc; NO_LABELS; course.places.given as usize + 1]?;
+    fill(&mut rows, departing, order, &course);
+    Ok(LabelTable::new(course.places.of_bits, rows))
 }

@@ -29,6 +29,7 @@ ghost use Rattle.mintc_checker.specs.Verdicts.{IsVerdict};
 mod arrivals;
 mod chain;
 mod clocked_design;
+mod course;
 mod departing_design;
 mod examining;
 mod labels;

@@ -10,7 +10,7 @@ ghost use Rattle.mintc_checker.specs.Judged.{AreTimelyLabels, IsFedAt, KeepsOwn}
 
 use crate::clocked_design::ClockedDesign;
 use crate::departing_design::DepartingDesign;
-use crate::labels::{Labels, label_in};
+use crate::labels::{LabelTable, label_in};
 use mintc_timing::{Bound, Flat, Schedule};
 use mintc_timing_links::{
     apart_excess, bound_excess, cycle_excess, order_excess, span_excess, width_excess,
@@ -28,7 +28,7 @@ pub(crate) fn has_counts(flat: &Flat, schedule: &Schedule, departures: &[i64]) -
 }
 
 /// Whether data of phase `i` reaches an element, if that is a latch on phase `j`.
-fn feeds_element(flat: &Flat, labels: &[Labels], i: u32, j: u32, number: u32) -> bool
+fn feeds_element(flat: &Flat, labels: &LabelTable, i: u32, j: u32, number: u32) -> bool
     requires first { IsPhase MOST_PHASES i }
     requires number { number < length flat.now.elements }
     requires count { length labels.now ≡ 2 * length flat.now.elements + length flat.now.inner }
@@ -42,7 +42,7 @@ fn feeds_element(flat: &Flat, labels: &[Labels], i: u32, j: u32, number: u32) ->
 }
 
 /// Whether phase `i` feeds phase `j`.
-fn feeds(flat: &Flat, labels: &[Labels], i: u32, j: u32) -> bool
+fn feeds(flat: &Flat, labels: &LabelTable, i: u32, j: u32) -> bool
     requires first { IsPhase MOST_PHASES i }
     requires count { length labels.now ≡ 2 * length flat.now.elements + length flat.now.inner }
     ensures { IsTrue result ↔ ((l : ℕ) × (l < length flat.now.elements) × IsFedAt flat.now labels.now i j l) }
@@ -56,7 +56,7 @@ fn feeds(flat: &Flat, labels: &[Labels], i: u32, j: u32) -> bool
 }
 
 /// Which phase feeds which: `i` feeds `j` at place `8 * (i - 1) + (j - 1)`.
-pub(crate) fn feeds_table(departing: &DepartingDesign<'_>, labels: &[Labels]) -> [bool; 64]
+pub(crate) fn feeds_table(departing: &DepartingDesign<'_>, labels: &LabelTable) -> [bool; 64]
     requires { AreTimelyLabels departing.now.flat.now departing.now.den departing.now.departures.now labels.now }
     ensures { IsFed departing.now.flat.now result }
 {

@@ -13,7 +13,7 @@ use Rattle.mintc_graph_walks.proofs.Shortening.{shorten, short_within, walk_of_p
 use Rattle.mintc_graph_walks.proofs.Walking.{arcs_of_walk, walk_of_arcs, potentials_along}
 
 -- nothing was raised in a pass
-module _ (arcs : List Arc) (starts values : List ℤ) (old_before : List ℕ) (new : List ℤ) (before : List ℕ) (round : ℕ) (p : HasPassed arcs (length arcs) values old_before new before None) (r : IsRound arcs starts round values old_before) (lengths : length values ≡ length starts) where
+module _ (arcs : List Arc) (starts values : List ℤ) (old_before : List ℕ) (new : List ℤ) (before : List ℕ) (round : ℕ) (p : HasPassed arcs values old_before new before None) (r : IsRound arcs starts round values old_before) (lengths : length values ≡ length starts) where
   abbrev Met : Type 0
   Met = (e : ℕ) → e < length arcs → UNREACHED <ℤ value_at new (arc_at arcs e).from → (UNREACHED <ℤ value_at new (arc_at arcs e).to) × (brought new (arc_at arcs e) ≤ℤ value_at new (arc_at arcs e).to)
 

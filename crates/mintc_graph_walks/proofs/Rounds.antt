@@ -7,7 +7,7 @@ use Rattle.mintc_graph_walks.specs.declared.network.TheConstants.{UNREACHED, NON
 use Rattle.mintc_graph_walks.specs.Walks.{arc_at, value_at, IsStart, IsReached}
 use Rattle.mintc_graph_walks.specs.Bounds.{AreBounded, AreFew, most_nodes}
 use Rattle.mintc_graph_walks.specs.Rises.{Walk, AreTended, SomeAge, HasRelaxed, HasPassed}
-use Rattle.mintc_graph_walks.specs.Chains.{Back, IsRooted}
+use Rattle.mintc_graph_walks.specs.Chains.{AreParents, Back, IsRooted}
 use Rattle.mintc_graph_walks.proofs.Relaxing.{AreBounded-weaker}
 
 -- each value is at least that of each walk of at most k arcs
@@ -33,6 +33,13 @@ AreTended-unraised arcs starts before none = (
     walked = λ v h r. (0, ((h, r), refl));
   },
 )
+
+-- then the arcs by which the nodes were raised lead to them from nodes
+pub AreParents-tended : (arcs : List Arc) (starts values : List ℤ) (before : List ℕ) → length before ≡ length values → SomeAge arcs starts values before → AreParents arcs before
+AreParents-tended arcs starts values before same some v h z =
+    let inside : v < length values = omega arith in
+    let t = some.1.tended v inside z in
+    (some.1.numbered v inside z, t.ends, rw same t.inside)
 
 -- before the first pass, when n arcs were relaxed
 pub IsRound-none : (arcs : List Arc) (starts : List ℤ) (old_before : List ℕ) (n : ℕ) (values : List ℤ) (before : List ℕ) → ((v : ℕ) → v < length starts → get_or old_before v 0 ≡ NONE) →
@@ -82,7 +89,7 @@ module _ (arcs : List Arc) (starts values : List ℤ) (before : List ℕ) (same 
         (j, w.0, omega arith, rw e at w.1, w.2)
 
 -- one pass more covers the walks of one arc more
-module _ (arcs : List Arc) (starts old : List ℤ) (old_before : List ℕ) (new : List ℤ) (before : List ℕ) (raised round : ℕ) (p : HasPassed arcs (length arcs) old old_before new before (Some raised)) (r : IsRound arcs starts round old old_before) (lengths : length old ≡ length starts) where
+module _ (arcs : List Arc) (starts old : List ℤ) (old_before : List ℕ) (new : List ℤ) (before : List ℕ) (raised round : ℕ) (p : HasPassed arcs old old_before new before (Some raised)) (r : IsRound arcs starts round old old_before) (lengths : length old ≡ length starts) where
   IsCovered-more : IsCovered arcs starts (round + 1) new
   IsCovered-more zero v x h w =
       let c = r.covered 0 v x (omega arith) w in
@@ -126,6 +133,6 @@ AreBounded-in_round arcs starts round values before r few v h = let f = r.bounde
 
 -- a pass keeps them there
 pub AreBounded-after_pass : (arcs : List Arc) (starts : List ℤ) (round : ℕ) (values : List ℤ) (before : List ℕ) (new : List ℤ) (new_before : List ℕ) (raised : Option ℕ) → IsRound arcs starts round values before → round < most_nodes →
-    AreFew arcs → HasPassed arcs (length arcs) values before new new_before raised → AreBounded (2 ^ 125) new
+    AreFew arcs → HasPassed arcs values before new new_before raised → AreBounded (2 ^ 125) new
 AreBounded-after_pass arcs starts round values before new new_before raised r short few p =
     AreBounded-weaker (2 ^ 96 + round * 2 ^ 109 + length arcs * 2 ^ 80) (2 ^ 125) new (omega arith) (p.relaxed.bounded (2 ^ 96 + round * 2 ^ 109) r.bounded)

@@ -1,8 +1,10 @@
 -- what arcs that are relaxed leave, and a pass over all of them
-use Rattle.std.specs.Prelude.{◌≡◌, ◌≢◌, ℕ, zero, suc, ℤ, ◌+◌, ◌*◌, ◌^◌, ◌+ℤ◌, ◌≤ℤ◌, ◌<ℤ◌, ◌<◌, List, length}
+use Rattle.std.specs.Prelude.{◌≡◌, ◌≢◌, ℕ, zero, suc, ℤ, ◌+◌, ◌-◌, ◌*◌, ◌^◌, ◌+ℤ◌, ◌≤ℤ◌, ◌<ℤ◌, ◌<◌, List, length}
 use Rattle.std.specs.Prelude.{slice_index, Option, IfSome, IfNone}
 use Rattle.mintc_graph_walks.specs.declared.network.Arc.{Arc}
 use Rattle.mintc_graph_walks.specs.declared.network.TheConstants.{NONE}
+use Rattle.mintc_graph_walks.specs.declared.rise.Direction.{Direction}
+use Rattle.mintc_graph_walks.specs.declared.rise.Direction.TheVariants.{Upwards, Downwards}
 use Rattle.mintc_graph_walks.specs.Bounds.{AreBounded}
 use Rattle.mintc_graph_walks.specs.Walks.{arc_at, value_at, brought, IsStart, IsReached}
 
@@ -42,12 +44,22 @@ pub record HasRelaxed (arcs : List Arc) (n : ℕ) (old : List ℤ) (old_before :
   pub bounded : (b : ℕ) → AreBounded b old → AreBounded (b + n * 2 ^ 80) new
   pub grows : (v : ℕ) → value_at old v ≤ℤ value_at new v
 
--- what relaxing the first i arcs leaves, and the node that was raised last
-pub record HasPassed (arcs : List Arc) (i : ℕ) (old : List ℤ) (old_before : List ℕ) (new : List ℤ) (before : List ℕ)
-    (raised : Option ℕ) : Type 0 where
+-- the number of the arc that a pass over n arcs takes after k others
+abbrev pub turn : Direction → ℕ → ℕ → ℕ
+turn Upwards n k = k
+turn Downwards n k = n - (k + 1)
+
+-- what relaxing i arcs leaves, each of them `order k` for some k below i, and the node that was raised last
+pub record HasTaken (arcs : List Arc) (order : ℕ → ℕ) (i : ℕ) (old : List ℤ) (old_before : List ℕ) (new : List ℤ)
+    (before : List ℕ) (raised : Option ℕ) : Type 0 where
   pub relaxed : HasRelaxed arcs i old old_before new before
   -- each arc's end has at least what the arc brought before
-  pub carried : (e : ℕ) → e < i → IsReached old (arc_at arcs e).from →
-      IsReached new (arc_at arcs e).to × (brought old (arc_at arcs e) ≤ℤ value_at new (arc_at arcs e).to)
+  pub carried : (k : ℕ) → k < i → IsReached old (arc_at arcs (order k)).from →
+      IsReached new (arc_at arcs (order k)).to ×
+      (brought old (arc_at arcs (order k)) ≤ℤ value_at new (arc_at arcs (order k)).to)
   pub risen : IfSome raised (λ v. (v < length old) × (value_at old v <ℤ value_at new v))
   pub still : IfNone raised (new ≡ old)
+
+-- what a pass over all arcs leaves, whatever the order in which it takes them
+abbrev pub HasPassed : List Arc → List ℤ → List ℕ → List ℤ → List ℕ → Option ℕ → Type 0
+HasPassed arcs = HasTaken arcs (λ e. e) (length arcs)

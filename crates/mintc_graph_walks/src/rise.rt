@@ -1,11 +1,20 @@
-//! One pass over the arcs, and arcs of a list.
+//! One pass over the arcs, upwards or downwards, and arcs of a list.
 ghost use Rattle.std.specs.Prelude.{◌≡◌, ◌<◌, ◌≤◌, ◌+◌, ◌^◌, ◌≤ℤ◌, ◌<ℤ◌, length, slice_set};
 ghost use Rattle.std.specs.Bool.{OnTrue, OnFalse};
 ghost use Rattle.mintc_graph_walks.specs.Bounds.{AreBounded, AreOrdinary, IsWithin};
 ghost use Rattle.mintc_graph_walks.specs.Walks.{IsReached, brought, value_at};
-ghost use Rattle.mintc_graph_walks.specs.Rises.{HasPassed, HasRelaxed};
+ghost use Rattle.mintc_graph_walks.specs.Rises.{HasPassed, HasRelaxed, turn};
 
 use crate::network::{Arc, Network, UNREACHED};
+
+/// The order in which a pass takes the arcs.
+#[derive(Clone, Copy)]
+pub(crate) enum Direction {
+    /// From the first arc to the last.
+    Upwards,
+    /// From the last arc to the first.
+    Downwards,
+}
 
 /// Raises the value of the arc's end to what the arc brings, where that is more, and says whether it did.
 #[inline(always)]
@@ -36,17 +45,36 @@ fn relax(values: &mut [i128], before: &mut [u32], number: u32, arc: Arc) -> bool
     false
 }
 
+/// The number of the arc that a pass over `len` arcs takes after `count` others.
+#[inline(always)]
+fn turn(direction: Direction, len: usize, count: usize) -> usize
+    requires { count < len }
+    ensures { result ≡ turn direction len count }
+{
+    match direction {
+        Direction::Upwards => count,
+        Direction::Downwards => len - 1 - count,
+    }
+}
+
 /// Relaxes each arc once, and gives the node that was raised last, if any was.
-pub(crate) fn pass<N: Network>(net: &N, values: &mut [i128], before: &mut [u32]) -> Option<u32>
+pub(crate) fn pass<N: Network>(
+    net: &N,
+    direction: Direction,
+    values: &mut [i128],
+    before: &mut [u32],
+) -> Option<u32>
     requires same { length before.old ≡ length values.old }
     requires nodes { length values.old < 2 ^ 32 }
     requires few { length (N.arcs net.now) < 2 ^ 32 }
     requires arcs { AreOrdinary (length values.old) (N.arcs net.now) }
     requires bounded { AreBounded (2 ^ 125) values.old }
-    ensures { HasPassed (N.arcs net.now) (length (N.arcs net.now)) values.old before.old values.new before.new result }
+    ensures { HasPassed (N.arcs net.now) values.old before.old values.new before.new result }
 {
+    let len = net.len();
     let mut raised = None;
-    for number in 0..net.len() {
+    for count in 0..len {
+        let number = turn(direction, len, count);
         let arc = net.arc(number);
         if relax(values, before, number as u32, arc) {
             raised = Some(arc.to);

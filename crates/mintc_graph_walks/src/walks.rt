@@ -7,7 +7,7 @@ ghost use Rattle.mintc_graph_walks.specs.Chains.{AreParents, IsRing, IsRooted};
 use crate::chains::{Ring, collect, mark};
 use crate::network::{NONE, Network};
 use crate::rings::heaviest;
-use crate::rise::{pass, relax_all};
+use crate::rise::{Direction, pass, relax_all};
 use crate::steps::Steps;
 use crate::trees::list_tree;
 use std::marker::Brand;
@@ -31,6 +31,21 @@ pub struct Tree {
     pub arcs: Vec<u32>,
     /// For work alone: any numbers will do, and what a walk leaves says nothing.
     pub marks: Vec<u32>,
+}
+
+/// How many passes a counter may say before passes go by turns. Ordinary searches end sooner, so they find the chains
+/// that they found before passes went by turns.
+const ORDINARY_PASSES: u64 = 32;
+
+/// The direction of the pass with which so many are taken. Arcs that lead back along a long chain raise nodes of it anew
+/// in each pass upwards, so that few of its arcs are the ones that raised their ends last; every second pass goes
+/// downwards once a search is long.
+fn direction_of(taken: u64) -> Direction {
+    if taken > ORDINARY_PASSES && taken % 2 == 1 {
+        Direction::Downwards
+    } else {
+        Direction::Upwards
+    }
 }
 
 /// A ring among the arcs by which the nodes were raised: the one that weighs most on the mean, else one behind the node
@@ -89,7 +104,8 @@ pub fn greatest_walks<N: Network, L: Ledger>(
     relax_all(net, first, values, before);
     for round in 0..values.len() {
         steps.tick();
-        let Some(raised) = pass(net, values, before) else {
+        let direction = direction_of(steps.taken());
+        let Some(raised) = pass(net, direction, values, before) else {
             return Answer::Values;
         };
         if let Some(ring) = find_ring(net, before, raised, marks) {

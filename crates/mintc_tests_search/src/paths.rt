@@ -292,6 +292,54 @@ fn searches_find_the_paths(rt: HostRuntime) {
     }
 }
 
+/// Two paths that take as long, of which the arc into the input with the lesser number comes from the second inner bit.
+const TIE: Case = Case {
+    name: "two paths that take as long",
+    elements: 2,
+    inner: 2,
+    arcs: &["q0 n0 1 1", "q0 n1 1 1", "n1 d1 2 2", "n0 d1 2 2"],
+};
+
+/// The same with the arcs in the other order.
+const TIE_TURNED: Case = Case {
+    name: "two paths that take as long, the last arcs first",
+    elements: 2,
+    inner: 2,
+    arcs: &["n0 d1 2 2", "n1 d1 2 2", "q0 n1 1 1", "q0 n0 1 1"],
+};
+
+/// Whether a finder takes these arcs for the slowest and for the fastest path of the one pair of a system.
+fn takes(alloc: Global, system: &System, arcs: &[u32]) -> bool {
+    if system.pairs().len() != 1 {
+        return false;
+    }
+    let pair = system.pairs()[0];
+    let Ok(mut finder) = Finder::new(alloc, system) else {
+        return false;
+    };
+    let Ok(slowest) = finder.path_of(alloc, system, pair.from, pair.to, pair.max) else {
+        return false;
+    };
+    match finder.shortest_path_of(alloc, system, pair.from, pair.to, pair.min) {
+        Ok(fastest) => slowest.items() == arcs && fastest.items() == arcs,
+        Err(_) => false,
+    }
+}
+
+/// A finder takes these arcs for the one pair of a case.
+fn is_taken(rt: &impl Abort, alloc: Global, case: &Case, arcs: &[u32]) {
+    match system_of(rt, alloc, case) {
+        Some(system) => assert!(rt; takes(alloc, &system, arcs), "{}", case.name),
+        None => panic!(rt; "refused"),
+    }
+}
+
+#[test]
+fn of_best_paths_that_with_the_least_arcs_is_taken(rt: HostRuntime) {
+    is_taken(&rt, rt.alloc(), &TIE, &[1, 2]);
+    is_taken(&rt, rt.alloc(), &TIE_TURNED, &[3, 0]);
+}
+
 /// The rows of a design before the arcs between its inner bits.
 const DEEP: &str =
     "table 1\nphases 1\nphase p\nelements 2\nelement a 1 0 - 0 0 0\nelement b 1 0 - 0 0 0\ninner 140\narcs 280\n\

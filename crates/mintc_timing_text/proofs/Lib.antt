@@ -1,3 +1,4 @@
+mod InnerLaws
 pub mod SharedFieldsLaws
 pub mod SharedReadingLaws
 pub mod SharedScheduleReading

@@ -19,8 +19,9 @@ ghost use Rattle.mintc_timing_text.specs.TableText.{arc, bound, phases as before
 
 use crate::Reader;
 use crate::table_lines::{ElementNumbers, Version, arc_of, bound_of, element_of, version_of};
+use itoa::write_digits;
 use mintc_text::limits::{MOST_ARCS, MOST_BOUNDS, MOST_COUNT, MOST_ELEMENTS, MOST_PHASES};
-use mintc_text::{Limits, Lines, Name, Names, OutOfMemory, ReadError, Refusal, Role, Stop};
+use mintc_text::{Limits, Name, Names, OutOfMemory, ReadError, Refusal, Role, Stop};
 use mintc_timing::{Bound, Element, Flat, TimingArc, first_over};
 use std::alloc::Global;
 
@@ -272,17 +273,16 @@ fn table(alloc: Global, reader: &mut Reader) -> Result<Parts, ReadError>
 fn inner_name(alloc: Global, number: u32) -> Result<Name, OutOfMemory>
     ensures { IfOk result (λ name. name ≡ codes "n" ++ decimal number) }
 {
-    let mut text = Lines::new(alloc);
-    text.put(b"n")?;
-    text.number(i128::from(number))?;
-    Name::new(alloc, &text.into_bytes())
+    let mut room = [b'n'; 11];
+    let start = write_digits(u64::from(number), &mut room, 11);
+    Name::new(alloc, &room[start - 1..])
 }
 
 /// The names of so many inner bits.
 fn inner_names(alloc: Global, count: u32) -> Result<Names, OutOfMemory>
     ensures { IfOk result (λ names. names ≡ inner_names count) }
 {
-    let mut names = Vec::new(alloc);
+    let mut names = Vec::with_capacity(alloc, count as usize)?;
     for number in 0..count {
         let name = inner_name(alloc, number)?;
         names.push(name)?;

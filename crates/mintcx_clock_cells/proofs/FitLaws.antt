@@ -1,5 +1,5 @@
 -- Gates that are fit for the clock, and the first that isn't.
-use Rattle.std.proofs.Common.{◌≡◌, ℕ, ◌+◌, ◌<◌, Bool, true, false, nat_lt, List, [], length, get_or, All, Ok, refl, sym, ap, subst, ◌∙◌, arith}
+use Rattle.std.proofs.Common.{◌≡◌, ◌==◌, ℕ, ◌+◌, ◌<◌, Bool, true, false, nat_lt, List, [], ◌∷◌, length, get_or, All, Ok, refl, sym, ap, subst, ◌∙◌, arith}
 use Rattle.std.specs.List.{AllWithin}
 use Rattle.std.proofs.lemmas.Bool.Decides.{nat_tests}
 use Rattle.std.proofs.lemmas.List.{get_or_default}
@@ -42,3 +42,14 @@ has-clocks text gates own senses cells library same fit names each = record {
   names = names;
   each = λ k h. each k h ∙ ap (λ (s : Senses). cell_for gates s own k) same;
 }
+
+-- the library where no gate is named
+pub no-gates : (text : List ℕ) (gates : List (List ℕ)) (own : Cells) → liberty_cells text ≡ Ok own → (length gates == 0) ≡ true → HasClockCells text gates own
+no-gates text [] own library none = record {
+  own = own;
+  library = library;
+  fit = λ k d h. absurd (omega (arith, h));
+  names = refl;
+  each = λ k h. refl;
+}
+no-gates text (g ∷ gates) own library none = absurd (cc)

@@ -36,6 +36,9 @@ pub fn clock_cells(alloc: Global, text: &[u8], gates: &[Name]) -> Result<Cells, 
     ensures unfit { IfErr result (IsUnfit text.now gates.now) }
 {
     let own = own_cells(alloc, text)?;
+    if gates.is_empty() {
+        return Ok(own);
+    }
     let senses = read_senses(alloc, text, &own)?;
     check_gates(alloc, &own, &senses, gates)?;
     Ok(with_clocks(alloc, gates, &own, &senses)?)

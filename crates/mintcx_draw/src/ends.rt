@@ -97,6 +97,26 @@ fn takes_words(alloc: Global, chain: &Chain) -> Result<Name, OutOfMemory>
     name_of(alloc, lines)
 }
 
+/// Adds a tip of the measure, which points from one place at another.
+fn push_tip(
+    forms: &mut Vec<Form>,
+    alloc: Global,
+    at: u32,
+    back: u32,
+    y: u32,
+) -> Result<(), OutOfMemory>
+    requires y { IsHeight y }
+    requires low { 8 ≤ y }
+{
+    let steps = vec![in alloc;
+        Step::Move { x: at, y },
+        Step::Line { x: back, y: y - 4 },
+        Step::Down(y + 4),
+        Step::Close,
+    ]?;
+    Ok(forms.push(filled(steps, Colour::Ink))?)
+}
+
 /// Adds the lines of the measure below the rows, from one place to another.
 fn push_measure(
     forms: &mut Vec<Form>,
@@ -119,27 +139,8 @@ fn push_measure(
         Step::Across(to),
     ]?;
     forms.push(stroke(steps, Colour::Ink, 1))?;
-    let steps = vec![in alloc;
-        Step::Move { x: from, y },
-        Step::Line {
-            x: from + 8,
-            y: y - 4
-        },
-        Step::Down(y + 4),
-        Step::Close,
-    ]?;
-    forms.push(filled(steps, Colour::Ink))?;
-    let steps = vec![in alloc;
-        Step::Move { x: to, y },
-        Step::Line {
-            x: to - 8,
-            y: y - 4
-        },
-        Step::Down(y + 4),
-        Step::Close,
-    ]?;
-    forms.push(filled(steps, Colour::Ink))?;
-    Ok(())
+    push_tip(forms, alloc, from, from + 8, y)?;
+    push_tip(forms, alloc, to, to - 8, y)
 }
 
 /// Adds the words of the measure: in its middle where there is room, else behind it.

@@ -1,4 +1,3 @@
 -- What contracts of public calls and laws say:
-pub mod Commands
 pub mod Manners
 pub mod Times

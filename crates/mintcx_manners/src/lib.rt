@@ -1,12 +1,10 @@
-//! The commands of `mintcx`, how an answer is given, and times with units, by their words.
+//! How an answer of `mintcx` is given, and times with units, by their words.
 //!
 //! A word stands for one value, by a definition that the contract of its reader names.
 #![tactic(auto)]
 
-mod commands;
 mod manners;
 mod times;
 
-pub use commands::{Asked, COMMANDS};
 pub use manners::{Color, Detail, Format, Limit, TimeUnit};
 pub use times::read_time;

@@ -91,6 +91,7 @@ fn put_report(
 {
     let schedule = decided.schedule;
     let departures = decided.departures;
+    let borrowing = decided.borrowing;
     let unit = unit_of(schedule, view);
     let told = Told {
         flat,
@@ -104,14 +105,7 @@ fn put_report(
     lines.put(b"\n")?;
     put_deciding(lines, alloc, &told, departures, decided.stages)?;
     lines.put(b"\n")?;
-    put_borrowers(
-        lines,
-        alloc,
-        &told,
-        departures,
-        decided.borrowing,
-        view.limit,
-    )?;
+    put_borrowers(lines, alloc, &told, departures, borrowing, view.limit)?;
     lines.put(b"\n")?;
     put_foot(lines, unit, b"")
 }

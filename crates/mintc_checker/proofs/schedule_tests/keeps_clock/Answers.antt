@@ -1,4 +1,4 @@
-use Rattle.std.proofs.Common.{◌≡◌, ◌+◌, ◌-◌, length, arith, ap, ◌∙◌, subst}
+use Rattle.std.proofs.Common.{◌≡◌, ◌+◌, ◌-◌, arith, ◌∙◌, subst}
 use borrow.Author.Count.{below_more}
 use Rattle.mintc_timing.specs.Clocking.{KeepsPhase}
 use Rattle.mintc_checker.proofs.Deciding.{holds}

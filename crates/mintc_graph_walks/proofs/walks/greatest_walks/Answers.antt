@@ -1,7 +1,7 @@
 use Rattle.std.proofs.Common.{length, ◌∙◌, refl, sym, arith}
 use Rattle.mintc_graph_walks.specs.declared.network.TheConstants.{NONE}
 use Rattle.mintc_graph_walks.proofs.Filling.{get_or-filled}
-use Rattle.mintc_graph_walks.proofs.Rounds.{AreBounded-in_round, AreBounded-after_pass, IsRound-none, IsRound-more}
+use Rattle.mintc_graph_walks.proofs.Rounds.{AreParents-tended, AreBounded-in_round, AreBounded-after_pass, IsRound-none, IsRound-more}
 use Rattle.mintc_graph_walks.proofs.Answering.{HasGreatest-from_still}
 use Rattle.mintc_graph_walks.proofs.Closing.{HasChain-from_loop}
 use Rattle.mintc_graph_walks.proofs.walks.greatest_walks.Goals as goal
@@ -36,3 +36,11 @@ loop-round-preserved g c =
 pub relax_all-requires-in-loop-round-clause-bounded : goal.relax_all-requires-in-loop-round-clause-bounded
 relax_all-requires-in-loop-round-clause-bounded g c =
     AreBounded-after_pass (g.N.Network.arcs c.args.net.now) c.args.values.now c.loop-round.round c.loop-round.values c.loop-round.before c.pass.new.values c.pass.new.before c.pass.result c.loop-round.invariant.0 (omega arith) c.requires.few c.pass.ensures
+
+pub find_ring-requires-clause-parents : goal.find_ring-requires-clause-parents
+find_ring-requires-clause-parents g c =
+    AreParents-tended (g.N.Network.arcs c.args.net.now) c.args.values.now c.pass.new.values c.pass.new.before (omega arith) (c.pass.ensures.relaxed.tended c.args.values.now (sym (c.loop-round.auto.values ∙ c.relax_all.auto.values)) c.loop-round.invariant.0.tended)
+
+pub collect-requires-clause-parents : goal.collect-requires-clause-parents
+collect-requires-clause-parents g c =
+    AreParents-tended (g.N.Network.arcs c.args.net.now) c.args.values.now c.pass.new.values c.pass.new.before (omega arith) (c.pass.ensures.relaxed.tended c.args.values.now (sym (c.loop-round.auto.values ∙ c.relax_all.auto.values)) c.loop-round.invariant.0.tended)
