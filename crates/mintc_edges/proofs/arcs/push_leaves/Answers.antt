@@ -1,5 +1,6 @@
-use Rattle.std.proofs.Common.{◌<◌, length, ap, arith}
-use Rattle.mintc_edges.specs.Kept.{leaf_arcs_in}
+use Rattle.std.proofs.Common.{◌<◌, ◌++◌, ℕ, length, ap, ◌∙◌, arith}
+use Rattle.mintc_annotate_resolve.specs.Pins.{leaf_cell}
+use Rattle.mintc_edges.specs.Kept.{leaf_arcs_kept, leaf_kept, leaf_arcs_in}
 use Rattle.mintc_edges.proofs.ListLaws.{flat_pushed}
 use Rattle.mintc_edges.proofs.StoredLaws.{numbered}
 use Rattle.mintc_edges.proofs.arcs.push_leaves.Goals as goal
@@ -11,9 +12,15 @@ push_leaf-requires-clause-element c = λ is.
     omega (arith, c.loop-leaf.invariant.1, number, c.requires.few)
 
 pub loop-leaf-preserved : goal.loop-leaf-preserved
-loop-leaf-preserved c = (
-  flat_pushed (leaf_arcs_in c.args.apart.now.told.now c.args.apart.now.senses.now c.args.apart.now.hierarchy.now c.args.apart.now.cells.now c.args.elements) c.args.found.now.items c.loop-leaf.found.items c.push_leaf.new.found.items c.loop-leaf.leaf
-      c.loop-leaf.invariant.0 c.in_ok-push_leaf.ensures,
-  c.next_element-element.ensures.value,
-  c.next_element-element.ensures.small,
-)
+loop-leaf-preserved c =
+    let told = c.args.apart.now.told.now in
+    let senses = c.args.apart.now.senses.now in
+    let h = c.args.apart.now.hierarchy.now in
+    let cells = c.args.apart.now.cells.now in
+    let n = c.args.elements in
+    let l = c.loop-leaf.leaf in (
+      flat_pushed (leaf_arcs_in told senses h cells n) c.args.found.now.items c.loop-leaf.found.items c.push_leaf.new.found.items l c.loop-leaf.invariant.0
+          (c.in_ok-push_leaf.ensures ∙ ap (λ (k : ℕ). c.loop-leaf.found.items ++ leaf_arcs_kept told senses (leaf_kept h cells n l) k (leaf_cell h cells l)) c.loop-leaf.invariant.1),
+      c.next_element-element.ensures.value,
+      c.next_element-element.ensures.small,
+    )
