@@ -301,17 +301,17 @@ fn build(
 fn edges_in_shape(
     alloc: Global,
     limits: &Limits,
-    sources: Sources<'_>,
+    sources: &Sources<'_>,
     delays: &EdgeDelays,
 ) -> Result<Flat, Stop>
-    requires shape { IsFlattened sources.cells.now sources.hierarchy.now }
-    requires clock { IsGivenClock sources.clock.now }
+    requires shape { IsFlattened sources.now.cells.now sources.now.hierarchy.now }
+    requires clock { IsGivenClock sources.now.clock.now }
     requires delays { AreGivenEdgeDelays delays.now.items }
     ensures { MatchResult result
-        (IsEdgeDesign limits.now sources.hierarchy.now sources.cells.now
-        (sense_of sources.senses.now sources.cells.now) sources.clock.now delays.now.items)
-        (StopsAt (IsEdgeRefusal limits.now sources.hierarchy.now sources.cells.now
-        (sense_of sources.senses.now sources.cells.now) sources.clock.now delays.now.items)) }
+        (IsEdgeDesign limits.now sources.now.hierarchy.now sources.now.cells.now
+        (sense_of sources.now.senses.now sources.now.cells.now) sources.now.clock.now delays.now.items)
+        (StopsAt (IsEdgeRefusal limits.now sources.now.hierarchy.now sources.now.cells.now
+        (sense_of sources.now.senses.now sources.now.cells.now) sources.now.clock.now delays.now.items)) }
 {
     clocks_keep_limits();
     edge_delays_have_edges();
@@ -325,9 +325,9 @@ fn edges_in_shape(
         sources.clock,
         delays,
     )?;
-    match limit(limits, &sources, &gathered) {
+    match limit(limits, sources, &gathered) {
         Some(refusal) => Err(Stop::Refused(refusal)),
-        None => build(alloc, limits, &sources, &gathered),
+        None => build(alloc, limits, sources, &gathered),
     }
 }
 
@@ -338,17 +338,17 @@ fn edges_in_shape(
 pub fn edges(
     alloc: Global,
     limits: &Limits,
-    sources: Sources<'_>,
+    sources: &Sources<'_>,
     delays: &EdgeDelays,
 ) -> Result<Flat, Stop>
-    requires hierarchy { IsGivenHierarchy sources.cells.now sources.hierarchy.now }
-    requires clock { IsGivenClock sources.clock.now }
+    requires hierarchy { IsGivenHierarchy sources.now.cells.now sources.now.hierarchy.now }
+    requires clock { IsGivenClock sources.now.clock.now }
     requires delays { AreGivenEdgeDelays delays.now.items }
     ensures { MatchResult result
-        (IsEdgeDesign limits.now sources.hierarchy.now sources.cells.now (sense_of sources.senses.now sources.cells.now)
-        sources.clock.now delays.now.items)
-        (StopsAt (IsEdgeRefusal limits.now sources.hierarchy.now sources.cells.now
-        (sense_of sources.senses.now sources.cells.now) sources.clock.now delays.now.items)) }
+        (IsEdgeDesign limits.now sources.now.hierarchy.now sources.now.cells.now (sense_of sources.now.senses.now sources.now.cells.now)
+        sources.now.clock.now delays.now.items)
+        (StopsAt (IsEdgeRefusal limits.now sources.now.hierarchy.now sources.now.cells.now
+        (sense_of sources.now.senses.now sources.now.cells.now) sources.now.clock.now delays.now.items)) }
 {
     hierarchies_are_in_shape();
     edges_in_shape(alloc, limits, sources, delays)

@@ -13,10 +13,10 @@ gather-requires-clause-edges c = c.edge_delays_have_edges.ensures c.requires.del
 
 pub build-requires-clause-parts : goal.build-requires-clause-parts
 build-requires-clause-parts c =
-    let h = c.args.sources.hierarchy.now in
-    let cells = c.args.sources.cells.now in
-    let senses = c.args.sources.senses.now in
-    let clock = c.args.sources.clock.now in
+    let h = c.args.sources.now.hierarchy.now in
+    let cells = c.args.sources.now.cells.now in
+    let senses = c.args.sources.now.senses.now in
+    let clock = c.args.sources.now.clock.now in
     let ds = c.args.delays.now.items in
     let g = c.in_ok-gathered.gathered in
     let are = c.in_ok-gathered.ensures.0 in
@@ -30,16 +30,16 @@ build-requires-clause-parts c =
 pub build-requires-clause-few : goal.build-requires-clause-few
 build-requires-clause-few c =
     let g = c.in_ok-gathered.gathered in
-    let few = few-kept g.told c.args.sources.senses.now c.args.sources.hierarchy.now c.args.sources.cells.now c.args.sources.clock.now g.phases
-    (as-stored c.args.sources.hierarchy.now c.args.sources.cells.now c.args.sources.clock.now g c.in_ok-gathered.ensures.0) c.args.limits.now (sym c.limit.ensures.refusal ∙ c.in-None.is) in
+    let few = few-kept g.told c.args.sources.now.senses.now c.args.sources.now.hierarchy.now c.args.sources.now.cells.now c.args.sources.now.clock.now g.phases
+    (as-stored c.args.sources.now.hierarchy.now c.args.sources.now.cells.now c.args.sources.now.clock.now g c.in_ok-gathered.ensures.0) c.args.limits.now (sym c.limit.ensures.refusal ∙ c.in-None.is) in
     omega (arith, few, c.limit.ensures.kept.elements)
 
 pub returns-in-Some : goal.returns-in-Some
 returns-in-Some c =
-    let h = c.args.sources.hierarchy.now in
-    let cells = c.args.sources.cells.now in
-    let senses = c.args.sources.senses.now in
-    let clock = c.args.sources.clock.now in
+    let h = c.args.sources.now.hierarchy.now in
+    let cells = c.args.sources.now.cells.now in
+    let senses = c.args.sources.now.senses.now in
+    let clock = c.args.sources.now.clock.now in
     let ds = c.args.delays.now.items in
     let g = c.in_ok-gathered.gathered in
     let edges = c.edge_delays_have_edges.ensures c.requires.delays.0 ds c.requires.delays.1 in
@@ -48,10 +48,10 @@ returns-in-Some c =
 
 pub returns-in-None : goal.returns-in-None
 returns-in-None c =
-    let h = c.args.sources.hierarchy.now in
-    let cells = c.args.sources.cells.now in
-    let senses = c.args.sources.senses.now in
-    let clock = c.args.sources.clock.now in
+    let h = c.args.sources.now.hierarchy.now in
+    let cells = c.args.sources.now.cells.now in
+    let senses = c.args.sources.now.senses.now in
+    let clock = c.args.sources.now.clock.now in
     let ds = c.args.delays.now.items in
     let g = c.in_ok-gathered.gathered in
     let edges = c.edge_delays_have_edges.ensures c.requires.delays.0 ds c.requires.delays.1 in
@@ -61,5 +61,5 @@ returns-in-None c =
 pub returns-in_err-gathered : goal.returns-in_err-gathered
 returns-in_err-gathered c =
     let p = err_from_is_err_and c.from_residual.result c.from_residual.ensures.1 in
-    rw (p.1, p.2) (stops-gathering c.args.sources.hierarchy.now c.args.sources.cells.now c.args.sources.clock.now c.args.delays.now.items c.args.limits.now
-    (sense_of c.args.sources.senses.now c.args.sources.cells.now) c.in_err-gathered.field-0.0 c.in_err-gathered.ensures)
+    rw (p.1, p.2) (stops-gathering c.args.sources.now.hierarchy.now c.args.sources.now.cells.now c.args.sources.now.clock.now c.args.delays.now.items c.args.limits.now
+    (sense_of c.args.sources.now.senses.now c.args.sources.now.cells.now) c.in_err-gathered.field-0.0 c.in_err-gathered.ensures)
