@@ -345,8 +345,8 @@ pub fn edges(
     requires clock { IsGivenClock sources.now.clock.now }
     requires delays { AreGivenEdgeDelays delays.now.items }
     ensures { MatchResult result
-        (IsEdgeDesign limits.now sources.now.hierarchy.now sources.now.cells.now (sense_of sources.now.senses.now sources.now.cells.now)
-        sources.now.clock.now delays.now.items)
+        (IsEdgeDesign limits.now sources.now.hierarchy.now sources.now.cells.now
+        (sense_of sources.now.senses.now sources.now.cells.now) sources.now.clock.now delays.now.items)
         (StopsAt (IsEdgeRefusal limits.now sources.now.hierarchy.now sources.now.cells.now
         (sense_of sources.now.senses.now sources.now.cells.now) sources.now.clock.now delays.now.items)) }
 {
