@@ -46,8 +46,8 @@ returns-in-Some c =
     let made = made-of h cells clock g c.in_ok-gathered.ensures.0 senses ds edges c.in_ok-gathered.ensures.1 in
     too_many (design_of_gathered h cells senses clock g) made (sym c.limit.ensures.refusal ∙ c.in-Some.is)
 
-pub returns-in-None : goal.returns-in-None
-returns-in-None c =
+pub returns : goal.returns
+returns c =
     let h = c.args.sources.now.hierarchy.now in
     let cells = c.args.sources.now.cells.now in
     let senses = c.args.sources.now.senses.now in
