@@ -1,7 +1,7 @@
 //! Edges and transitions.
 ghost use Rattle.std.specs.Prelude.{◌≡◌, ◌<◌, ◌-◌, ◌^◌, IfOk};
 ghost use Rattle.mintc_senses_expressions.specs.Transitions.{has};
-ghost use Rattle.mintc_edges.specs.Edges.{both_edges, edge_number, at_edge, edge_mark, edge_name, is_rise, only};
+ghost use Rattle.mintc_edges.specs.Edges.{edge_number, at_edge, edge_mark, edge_name, is_rise};
 
 use mintc_sdf_edges::Edges;
 use mintc_senses_expressions::Transitions;

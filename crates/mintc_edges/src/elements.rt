@@ -1,15 +1,13 @@
 //! The elements of the design.
-ghost use Rattle.std.specs.Prelude.{◌≡◌, ◌<◌, ◌≤◌, ◌+◌, ◌++◌, ◌∷◌, [], ◌-ℤ◌, pos, length, map, flat_map};
+ghost use Rattle.std.specs.Prelude.{◌≡◌, ◌<◌, ◌+◌, ◌++◌, ◌∷◌, [], ◌-ℤ◌, pos, length, map, flat_map};
 ghost use Rattle.std.specs.Prelude.{slice_index_or, zip, true, false, All, MatchOption, IfOk, OnOk, if◌then◌else◌};
 ghost use Rattle.std.specs.Int.{int_max};
-ghost use Rattle.mintc_text.specs.declared.limits.TheConstants.{MOST_INNER};
 ghost use Rattle.mintc_flatten_hierarchy.specs.Shape.{IsFlattened};
 ghost use Rattle.mintc_annotate_resolve.specs.Names.{HasNames};
 ghost use Rattle.mintc_annotate_resolve.specs.Pins.{leaf_cell, leaf_path, dotted, is_storage};
 ghost use Rattle.mintc_annotate.specs.Counts.{with_port, IsListedBit};
 ghost use Rattle.mintc_annotate.specs.Made.{first_range, unless_own_cq, greatest_or, is_latch, is_flop, port_element};
 ghost use Rattle.mintc_annotate.specs.Phases.{storage};
-ghost use Rattle.mintc_senses.specs.Senses.{sense_at};
 ghost use Rattle.mintc_senses_expressions.specs.Transitions.{has};
 ghost use Rattle.mintc_edges.specs.Edges.{each_edge, edge_name, is_rise};
 ghost use Rattle.mintc_edges.specs.Numbers.{wider};
