@@ -1,5 +1,5 @@
 -- What a subject annotates is apt for it.
-use Rattle.std.proofs.Common.{◌≡◌, ℕ, ◌+◌, ◌==◌, ◌-◌, Bool, true, false, cond, ◌&&◌, List, [], ◌∷◌, ◌++◌, length, take, All, slice_index_or, Option, Some, None, option_map, refl, sym, ap, ◌∙◌}
+use Rattle.std.proofs.Common.{◌≡◌, ℕ, ◌==◌, ◌-◌, Bool, true, false, cond, ◌&&◌, List, [], ◌∷◌, ◌++◌, length, take, All, slice_index_or, Option, Some, None, option_map, refl, ap}
 use Rattle.std.proofs.lemmas.List.Elements.{All-nil, All-cons}
 use Rattle.mintc_cells.specs.declared.cell.Cell.{Cell}
 use Rattle.mintc_cells.specs.declared.cell.Cell.TheVariants.{Gate, Latch, Flop, Clock}
@@ -10,7 +10,7 @@ use Rattle.mintc_sdf.specs.declared.delays.Subject.TheVariants as subject
 use Rattle.mintc_annotate_resolve.specs.declared.ports.PortBit.{PortBit}
 use Rattle.mintc_annotate_resolve.specs.Pins.{leaf_cell, is_storage, pin_bit, input_pin, output_pin}
 use Rattle.mintc_annotate_resolve.specs.Ports.{place_of}
-use Rattle.mintc_annotate_resolve.specs.Resolution.{Target, path_on, join_into, arcs_from, dq_of, cq_of, setup_of, hold_of, width_of, Resolved, of, no_instance, of_path, of_check, both, pins_named, of_leaf, leaf_called, is_scope, at_port, into, at_pin, of_interconnect, of_instance, targets}
+use Rattle.mintc_annotate_resolve.specs.Resolution.{Target, path_on, join_into, arcs_from, dq_of, cq_of, setup_of, hold_of, width_of, of, no_instance, of_path, of_check, both, pins_named, of_leaf, leaf_called, is_scope, at_port, into, at_pin, of_interconnect, of_instance, targets}
 use Rattle.mintc_annotate.specs.Made.{is_latch}
 use Rattle.mintc_edges.specs.Claims.{IsApt, HasEnd}
 

@@ -25,11 +25,10 @@ use Rattle.mintc_timing.specs.Limits.{IsElement, IsArc, HasParts}
 use Rattle.mintc_annotate_resolve.specs.Pins.{leaf_at, leaf_cell, leaf_path, dotted, no_leaf, all_leaves, all_names, inner_name, is_storage, pin_bit, input_count, output_count, input_numbers, output_numbers}
 use Rattle.mintc_annotate_resolve.specs.Resolution.{Target, path_on, join_into, arcs_from, first_refusal}
 use Rattle.mintc_annotate.specs.ClockPorts.{has_ports, first_false, listed_in}
-use Rattle.mintc_annotate.specs.Made.{RangeOf, element_of, elements_of, port_element, bits_of, number_in, no_delay, IsMade, design_made}
+use Rattle.mintc_annotate.specs.Made.{RangeOf, element_of, elements_of, port_element, bits_of, number_in, no_delay, design_made}
 use Rattle.mintc_annotate.specs.Phases.{storage, phase_spots, AreTraced, IsPhaseOf}
 use Rattle.mintc_annotate.proofs.SharedPartLaws.{rules_at, stored_rules, holds_at, parts_of}
 use Rattle.mintc_edges.specs.declared.edge.Edge.{Edge}
-use Rattle.mintc_edges.specs.declared.edge.Transition.{Transition}
 use Rattle.mintc_edges.specs.Edges.{only, any, each_edge, edge_name, transitions_of}
 use Rattle.mintc_edges.specs.Numbers.{SenseOf, without_edges, merged_range, wire_range, gate_range, element_range}
 use Rattle.mintc_edges.specs.Apart.{named_at, merged_element, stored_element, port_elements, elements_apart, join_arc_at, join_arcs, gate_arc_at, pin_arcs, gate_arcs_apart, data_arc_at, data_arcs, output_arc_at, output_pin_arcs, stored_arcs, leaf_arcs_apart, input_arc_at, input_arcs_apart, port_arc_at, output_arcs_apart, arcs_apart, names_apart, design_apart}

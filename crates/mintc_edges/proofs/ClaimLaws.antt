@@ -1,11 +1,11 @@
 -- What is claimed, as it grows, and what all delays say.
-use Rattle.std.proofs.Common.{◌≡◌, ℕ, ℤ, Bool, true, false, cond, ◌&&◌, ◌||◌, List, [], ◌∷◌, ◌++◌, map, filter, flat_map, All, Option, Some, None, refl, sym, ap, ◌∙◌, subst}
+use Rattle.std.proofs.Common.{◌≡◌, ℕ, ℤ, Bool, true, false, cond, ◌&&◌, List, [], ◌∷◌, ◌++◌, map, filter, Option, Some, None, refl, sym, ap, ◌∙◌}
 use Rattle.std.proofs.lemmas.List.{map-append}
 use Rattle.mintc_flatten_hierarchy.specs.declared.hierarchy.Hierarchy.{Hierarchy}
 use Rattle.mintc_flatten_hierarchy.specs.Shape.{CellTable}
 use Rattle.mintc_sdf_edges.specs.declared.delays.EdgeDelay.{EdgeDelay}
 use Rattle.mintc_sdf_edges.specs.declared.delays.Edges.{Edges}
-use Rattle.mintc_annotate_resolve.specs.Resolution.{Target, Said, said, said_by, same_target, range_of, targets, resolved, dq_of, cq_of, path_on, join_into, arcs_from, setup_of, hold_of, width_of}
+use Rattle.mintc_annotate_resolve.specs.Resolution.{Target, said, said_by, same_target, range_of, targets, resolved, dq_of, cq_of, path_on, join_into, arcs_from, setup_of, hold_of, width_of}
 use Rattle.mintc_edges.specs.declared.edge.Edge.{Edge}
 use Rattle.mintc_edges.specs.declared.edge.Edge.TheVariants.{Rise, Fall}
 use Rattle.mintc_edges.specs.declared.spreads.ByEdge.{ByEdge}

@@ -1,5 +1,5 @@
 -- Counts, as they grow, and outputs counted among all pins or among outputs.
-use Rattle.std.proofs.Common.{◌≡◌, ℕ, ℤ, Bool, true, false, zero, suc, ◌≤◌, ◌+◌, ◌-◌, ◌*◌, List, [], ◌∷◌, ◌++◌, sum_by, length, refl, sym, ap, ◌∙◌, arith, subst, map-id}
+use Rattle.std.proofs.Common.{◌≡◌, ℕ, ℤ, true, false, zero, suc, ◌+◌, ◌-◌, List, [], ◌∷◌, ◌++◌, sum_by, length, refl, sym, ap, ◌∙◌, arith, map-id}
 use Rattle.std.specs.List.{range_with_len}
 use Rattle.std.proofs.lemmas.List.FromFn.{map-range_with_len_more}
 use Rattle.std.proofs.lemmas.List.Sums.{sum_by-append}

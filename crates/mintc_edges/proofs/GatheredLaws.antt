@@ -1,5 +1,5 @@
 -- The design by what is gathered for it.
-use Rattle.std.proofs.Common.{◌≡◌, ◌≤◌, ◌+◌, ◌*◌, ℕ, Bool, true, false, cond, min, List, [], ◌∷◌, ◌++◌, length, map, flat_map, zip, All, Option, Some, None, option_map, Result, Ok, Err, MatchResult, refl, sym, ap, ◌∙◌, subst, arith, length-append}
+use Rattle.std.proofs.Common.{◌≡◌, ◌≤◌, ◌+◌, ◌*◌, ℕ, Bool, true, false, cond, min, List, ◌++◌, length, map, flat_map, zip, All, Option, Some, None, option_map, Result, Ok, Err, MatchResult, refl, sym, ap, ◌∙◌, subst, arith, length-append}
 use Rattle.std.specs.Prelude.{nat_lt}
 use Rattle.std.proofs.lemmas.Bool.Decides.{nat_tests}
 use Rattle.std.proofs.lemmas.List.{length-map}
@@ -37,7 +37,7 @@ use Rattle.mintc_edges.specs.declared.designing.Gathered.{Gathered}
 use Rattle.mintc_edges.specs.declared.edge.Edge.{Edge}
 use Rattle.mintc_edges.specs.declared.told.Told.{Told}
 use Rattle.mintc_edges.specs.Counts.{leaf_arc_count}
-use Rattle.mintc_edges.specs.Edges.{each_edge, edge_name}
+use Rattle.mintc_edges.specs.Edges.{edge_name}
 use Rattle.mintc_edges.specs.Numbers.{SenseOf, sense_of, without_edges}
 use Rattle.mintc_edges.specs.Apart.{named_at, no_later_than, port_elements, names_apart, design_apart, IsApart, IsEdgeDesign, IsEdgeRefusal, no_port, annotates_nothing, no_phase}
 use Rattle.mintc_edges.specs.Gathered.{AreGathered, IsResolved, design_of_gathered}

@@ -1,26 +1,24 @@
 -- How many elements and arcs the design has.
-use Rattle.std.proofs.Common.{◌≡◌, ℕ, suc, ◌+◌, ◌*◌, ℤ, true, false, List, [], ◌∷◌, ◌++◌, map, flat_map, zip, length, sum_by, refl, sym, ap, ◌∙◌, arith, length-append}
+use Rattle.std.proofs.Common.{◌≡◌, ℕ, ◌+◌, ◌*◌, ℤ, List, [], ◌∷◌, ◌++◌, flat_map, length, sum_by, refl, ap, ◌∙◌, arith, length-append}
 use Rattle.std.specs.List.{range_with_len}
 use Rattle.std.proofs.lemmas.List.{length-map}
 use Rattle.std.proofs.lemmas.List.Sums.{sum_by-append}
-use Rattle.std.proofs.lemmas.Slice.Zip.{length-zip}
 use Rattle.mintc_cells.specs.declared.cell.Cell.{Cell}
 use Rattle.mintc_cells.specs.declared.cell.Cell.TheVariants.{Gate, Latch, Flop, Clock}
-use Rattle.mintc_clock.specs.declared.clock.Clock as clock_type
 use Rattle.mintc_clock.specs.declared.clock.Listed.{Listed}
 use Rattle.mintc_flatten_hierarchy.specs.declared.hierarchy.Hierarchy.{Hierarchy}
 use Rattle.mintc_flatten_hierarchy.specs.Shape.{CellTable}
 use Rattle.mintc_senses.specs.Senses.{sense_at}
 use Rattle.mintc_senses_expressions.specs.declared.transitions.Transitions.{Transitions}
-use Rattle.mintc_annotate_resolve.specs.Pins.{leaf_at, leaf_cell, all_leaves, all_names, inner_name, input_count}
-use Rattle.mintc_annotate.specs.Made.{bits_of, number_in}
+use Rattle.mintc_annotate_resolve.specs.Pins.{leaf_at, leaf_cell, all_leaves, input_count}
+use Rattle.mintc_annotate.specs.Made.{number_in}
 use Rattle.mintc_annotate.specs.Phases.{storage}
 use Rattle.mintc_edges.specs.declared.edge.Edge.{Edge}
 use Rattle.mintc_edges.specs.declared.told.Told.{Told}
-use Rattle.mintc_edges.specs.Edges.{each_edge, edge_name, transitions_of}
+use Rattle.mintc_edges.specs.Edges.{each_edge, transitions_of}
 use Rattle.mintc_edges.specs.Numbers.{sense_of}
 use Rattle.mintc_edges.specs.Counts.{pin_arc_count, arc_count, leaf_arc_count, row_count, gate_count}
-use Rattle.mintc_edges.specs.Apart.{input_arcs_apart, names_apart}
+use Rattle.mintc_edges.specs.Apart.{input_arcs_apart}
 use Rattle.mintc_edges.specs.Kept.{join_arc_kept, gate_arc_kept, pin_arcs_kept, row_arcs_kept, gate_arcs_kept, output_arc_kept, output_arcs_kept, stored_arcs_kept, leaf_arcs_kept, leaf_kept, leaf_arcs_in, output_arcs_of}
 use Rattle.mintc_edges.specs.Whole.{arcs_kept}
 use Rattle.mintc_edges.proofs.CountLaws.{sum_same, row_is, gate_is}

@@ -1,5 +1,5 @@
 -- Lists whose items each lie on one of another list.
-use Rattle.std.proofs.Common.{◌+◌, List, [], ◌∷◌, ◌++◌, map, flat_map, All, Any, arith, refl}
+use Rattle.std.proofs.Common.{List, [], ◌∷◌, ◌++◌, map, flat_map, All, Any, arith, refl}
 use Rattle.std.proofs.lemmas.List.Elements.{All-nil, All-cons, All-head, All-tail, All-append, All-weaker, Contains-append_left, Contains-append_right}
 use Rattle.mintc_edges.specs.declared.edge.Edge.{Edge}
 use Rattle.mintc_edges.specs.declared.edge.Edge.TheVariants.{Rise, Fall}

@@ -1,5 +1,5 @@
 -- The table, once it has taken in one claim.
-use Rattle.std.proofs.Common.{◌≡◌, ℕ, ◌==◌, ◌<◌, ℤ, Bool, true, false, cond, ◌&&◌, ◌||◌, nat_eq, List, [], ◌∷◌, ◌++◌, length, slice_index_or, bytes_eq, Option, Some, None, option_map, refl, sym, ap, ◌∙◌, subst, ⊎_elim, arith}
+use Rattle.std.proofs.Common.{◌≡◌, ℕ, ◌==◌, ℤ, Bool, true, false, cond, ◌&&◌, ◌||◌, nat_eq, List, [], ◌∷◌, ◌++◌, slice_index_or, Some, option_map, refl, sym, ap, ◌∙◌, subst, ⊎_elim}
 use Rattle.std.proofs.lemmas.Bool.{eq-eqb, ne_eqb, cases_eq}
 use Rattle.mintc_cells.specs.declared.cell.Cell.{Cell}
 use Rattle.mintc_cells.specs.declared.cell.Cell.TheVariants.{Gate, Latch, Flop, Clock}
@@ -11,7 +11,7 @@ use Rattle.mintc_sdf.specs.declared.delays.Subject.TheVariants as subject
 use Rattle.mintc_sdf_edges.specs.declared.delays.EdgeDelay.{EdgeDelay}
 use Rattle.mintc_sdf_edges.specs.declared.delays.Edges.{Edges}
 use Rattle.mintc_sdf_edges.specs.Laws.{HasEdges}
-use Rattle.mintc_annotate_resolve.specs.Pins.{leaf_cell, is_storage, output_pin}
+use Rattle.mintc_annotate_resolve.specs.Pins.{leaf_cell, is_storage}
 use Rattle.mintc_annotate_resolve.specs.Resolution.{Target, path_on, join_into, arcs_from, dq_of, cq_of, setup_of, hold_of, width_of, same_target}
 use Rattle.mintc_annotate.specs.Made.{is_latch, is_flop}
 use Rattle.mintc_edges.specs.declared.edge.Edge.{Edge}
@@ -20,9 +20,9 @@ use Rattle.mintc_edges.specs.declared.matters.Matter.{Matter}
 use Rattle.mintc_edges.specs.declared.matters.Matter.TheVariants as matter
 use Rattle.mintc_edges.specs.declared.spreads.ByEdge.{ByEdge}
 use Rattle.mintc_edges.specs.declared.told.Told.{Told}
-use Rattle.mintc_edges.specs.Claims.{Claim, claimed, leads_to_pin, HasClaims, begins_at_clock, said_of, HasEnd, IsApt, matter_at}
+use Rattle.mintc_edges.specs.Claims.{Claim, claimed, leads_to_pin, HasClaims, begins_at_clock, said_of, IsApt, matter_at}
 use Rattle.mintc_edges.specs.Edges.{only, any, share}
-use Rattle.mintc_edges.specs.Matters.{end_of, path_from, matter_of}
+use Rattle.mintc_edges.specs.Matters.{end_of, matter_of}
 use Rattle.mintc_edges.specs.Numbers.{speaks_of, leads_to}
 use Rattle.mintc_edges.specs.Spreads.{at_one, begun, widened_by}
 use Rattle.mintc_edges.specs.Told.{same_key, path_told, told_at, is_path, is_join, is_port, is_setup, is_hold, is_width, IsToldMore}

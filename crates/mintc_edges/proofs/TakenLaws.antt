@@ -1,5 +1,5 @@
 -- Delays taken in one after another.
-use Rattle.std.proofs.Common.{◌≡◌, ◌<◌, ◌+◌, ℕ, ℤ, List, [], ◌∷◌, ◌++◌, length, map, flat_map, take, drop, get_or, Option, Some, None, Result, Ok, Err, refl, sym, ap, ◌∙◌, subst, arith, append_assoc, append-nil}
+use Rattle.std.proofs.Common.{◌≡◌, ◌<◌, ◌+◌, ℕ, List, [], ◌∷◌, ◌++◌, length, take, drop, get_or, Option, Some, None, Result, Ok, Err, refl, sym, ap, ◌∙◌, subst, arith, append_assoc, append-nil}
 use Rattle.std.specs.Option.{option_or}
 use Rattle.std.specs.Result.{OnOk}
 use Rattle.std.proofs.lemmas.List.{map-append, take_more, drop_more, take-append-drop}
@@ -19,19 +19,17 @@ use Rattle.mintc_flatten_hierarchy.specs.declared.hierarchy.Hierarchy.{Hierarchy
 use Rattle.mintc_flatten_hierarchy.specs.Shape.{CellTable}
 use Rattle.mintc_annotate_resolve.specs.declared.targets.Target.{Target as Annotated}
 use Rattle.mintc_annotate_resolve.specs.declared.targets.Target.TheVariants as annotated
-use Rattle.mintc_annotate_resolve.specs.Resolution.{Target, Resolved, of, no_instance, no_arc, of_leaf, together, of_each, of_instance, of_place, leaf_called, resolved, targets, refusal_of, first_refusal}
+use Rattle.mintc_annotate_resolve.specs.Resolution.{Target, Resolved, of, of_leaf, together, of_each, of_instance, of_place, leaf_called, resolved, targets, refusal_of, first_refusal}
 use Rattle.mintc_annotate_resolve.specs.Targets.{target_of, IsThere}
 use Rattle.mintc_annotate_resolve.proofs.SharedInstanceLaws.{no_leaf_at_top}
 use Rattle.mintc_annotate_delays.specs.Gathered.{path_of}
 use Rattle.mintc_annotate.proofs.SharedPartLaws.{stored_rules}
 use Rattle.mintc_edges.specs.declared.matters.Matter.{Matter}
-use Rattle.mintc_edges.specs.declared.told.Said.{Said}
 use Rattle.mintc_edges.specs.declared.told.Told.{Told}
 use Rattle.mintc_edges.specs.Claims.{Claim, claims_of, claims, HasClaims, IsApt, IsTakenIn, matter_at, said_of}
 use Rattle.mintc_edges.specs.Matters.{matter_of}
 use Rattle.mintc_edges.specs.Numbers.{without_edges}
-use Rattle.mintc_edges.specs.Told.{HasRoom, HasPlace, IsUntold, IsToldMore, IsSameRoom, AreTold}
-use Rattle.mintc_edges.proofs.ClaimLaws.{all-told}
+use Rattle.mintc_edges.specs.Told.{HasRoom, HasPlace, IsToldMore, IsSameRoom}
 use Rattle.mintc_edges.proofs.StepLaws.{has-end, matter-is, has-more}
 
 -- ---- places

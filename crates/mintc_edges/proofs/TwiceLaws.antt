@@ -1,5 +1,5 @@
 -- Lists that have two items for each item of another.
-use Rattle.std.proofs.Common.{◌≡◌, ℕ, zero, suc, ◌<◌, ◌+◌, ◌*◌, ◌/◌, List, [], ◌∷◌, ◌++◌, map, flat_map, length, get_or, arith, refl, sym, subst}
+use Rattle.std.proofs.Common.{◌≡◌, ℕ, zero, suc, ◌<◌, ◌*◌, ◌/◌, List, [], ◌∷◌, ◌++◌, map, flat_map, length, get_or, arith, refl, sym, subst}
 use Rattle.mintc_edges.specs.declared.edge.Edge.{Edge}
 use Rattle.mintc_edges.specs.declared.edge.Edge.TheVariants.{Rise, Fall}
 use Rattle.mintc_edges.specs.Edges.{each_edge}

@@ -1,4 +1,4 @@
-use Rattle.std.proofs.Common.{min, length, ap, ◌∙◌, sym, refl}
+use Rattle.std.proofs.Common.{min, ap, ◌∙◌, sym, refl}
 use Rattle.mintc_text.specs.declared.limits.TheConstants.{MOST_TOLD}
 use Rattle.mintc_edges.proofs.CountLaws.{gate-counted, stored-counted}
 use Rattle.mintc_edges.proofs.counting.arc_count.Goals as goal

@@ -1,4 +1,4 @@
-use Rattle.std.proofs.Common.{◌∙◌, true, false, length, ap, arith}
+use Rattle.std.proofs.Common.{true, false, length, ap, arith}
 use Rattle.std.proofs.lemmas.Grind.{common_steps}
 use Rattle.mintc_edges.proofs.BitLaws.{as-many-bits}
 use Rattle.mintc_edges.proofs.GatheredLaws.{as-stored}

@@ -1,4 +1,4 @@
-use Rattle.std.proofs.Common.{◌∙◌, ◌+◌, ◌*◌, length, ap, arith}
+use Rattle.std.proofs.Common.{◌∙◌, ◌*◌, length, ap, arith}
 use Rattle.mintc_edges.specs.Counts.{leaf_arc_count}
 use Rattle.mintc_edges.specs.Numbers.{sense_of}
 use Rattle.mintc_edges.proofs.GatheredLaws.{counts-alike}

@@ -1,4 +1,4 @@
-use Rattle.std.proofs.Common.{◌≡◌, ◌∙◌, map, sym, ap}
+use Rattle.std.proofs.Common.{◌∙◌, map, sym, ap}
 use Rattle.std.specs.List.{range_with_len}
 use Rattle.mintc_edges.specs.Numbers.{wider, widest}
 use Rattle.mintc_edges.specs.Stored.{along_kept}

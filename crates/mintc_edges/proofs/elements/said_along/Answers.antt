@@ -1,4 +1,4 @@
-use Rattle.std.proofs.Common.{◌≡◌, ◌+◌, ℕ, ℤ, Option, cond, None, ap, ◌∙◌}
+use Rattle.std.proofs.Common.{ℕ, ℤ, Option, cond, None, ap, ◌∙◌}
 use Rattle.mintc_senses.specs.Senses.{sense_at}
 use Rattle.mintc_senses_expressions.specs.declared.transitions.Transitions.{Transitions}
 use Rattle.mintc_senses_expressions.specs.Transitions.{has}

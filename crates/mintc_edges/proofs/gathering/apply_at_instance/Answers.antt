@@ -1,7 +1,7 @@
-use Rattle.std.proofs.Common.{◌≡◌, Some, All, sym, ap, ◌∙◌, subst}
+use Rattle.std.proofs.Common.{◌≡◌, Some, All, sym, subst}
 use Rattle.std.specs.Result.{OnOk, IfErr}
 use Rattle.mintc_text.specs.Stops.{StopsAt}
-use Rattle.mintc_annotate_resolve.specs.Resolution.{Resolved, of_instance, leaf_called, refusal_of, targets}
+use Rattle.mintc_annotate_resolve.specs.Resolution.{Resolved, leaf_called, refusal_of, targets}
 use Rattle.mintc_edges.specs.Claims.{IsApt, IsTakenIn}
 use Rattle.mintc_edges.proofs.AptLaws.{apt-instance}
 use Rattle.mintc_edges.proofs.gathering.apply_at_instance.Goals as goal

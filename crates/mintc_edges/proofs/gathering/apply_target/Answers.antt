@@ -1,7 +1,5 @@
-use Rattle.std.proofs.Common.{◌≡◌, Some, None, sym, subst}
-use Rattle.mintc_annotate_resolve.specs.Targets.{target_of}
+use Rattle.std.proofs.Common.{sym, subst}
 use Rattle.mintc_edges.specs.declared.told.Said.{Said}
-use Rattle.mintc_edges.specs.Claims.{said_of}
 use Rattle.mintc_edges.specs.Told.{IsToldMore}
 use Rattle.mintc_edges.proofs.TakenLaws.{no-matter, has-place, taken-one, on-ok-both}
 use Rattle.mintc_edges.proofs.gathering.apply_target.Goals as goal

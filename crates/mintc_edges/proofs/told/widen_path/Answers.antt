@@ -1,4 +1,4 @@
-use Rattle.std.proofs.Common.{◌≡◌, ℤ, Some, cond, unwrap_or, ap, ◌∙◌, w64, SFits, rules}
+use Rattle.std.proofs.Common.{◌≡◌, Some, cond, unwrap_or, ap, ◌∙◌, w64, SFits, rules}
 use Rattle.std.specs.HashMap.{get}
 use Rattle.std.proofs.lemmas.Int.{to_z-of_z}
 use Rattle.mintc_edges.specs.declared.spreads.Spread.{Spread}
