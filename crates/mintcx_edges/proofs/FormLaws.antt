@@ -13,7 +13,7 @@ use Rattle.mintc_flatten_hierarchy.specs.Shape.{CellTable}
 use Rattle.mintc_build.specs.FilesDesign.{CellText, described_by, library_by, IsLibraryRefusal}
 use Rattle.mintcx_clock_cells.specs.Clocks.{Senses, HasClockCells, IsFit, IsUnknown, IsUnusable, IsFirstUnfit, IsUnfit, senses_in, cell_for, clock_at}
 use Rattle.mintcx_clock_cells.specs.declared.unfit.Unfit.TheVariants as unfit
-use Rattle.mintcx_edges.specs.EdgeFiles.{SensedText, description, library_with}
+use Rattle.mintcx_edges.specs.EdgeFiles.{SensedText, description, library_with, cells_with}
 
 -- ---- forms of cells
 
@@ -102,6 +102,9 @@ pub library_same : AreSameForms library_by (library_with [])
 library_same c a b h k =
     let own : a ≡ k.own = one-library c a k.own h k.library in
     own ∙ sym (same-cells b k.own k.names (λ i l. k.each i (omega (arith, l, same-length b k.own k.names))))
+
+pub gated_same : (gates : List (List ℕ)) → AreSameForms (cells_with gates) (library_with gates)
+gated_same gates = one_gated gates
 
 -- ---- gates that are fit aren't told
 
