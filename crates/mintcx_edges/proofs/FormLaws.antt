@@ -1,5 +1,5 @@
 -- A library with gates for the clock has one list of cells at most, which is its own where no gate is named.
-use Rattle.std.proofs.Common.{◌≡◌, ℕ, ◌<◌, List, [], length, get_or, All, Option, Some, None, IsSome, Ok, Err, refl, sym, ap, ◌∙◌, subst, arith}
+use Rattle.std.proofs.Common.{◌≡◌, ℕ, ◌<◌, List, [], length, get_or, All, Option, Some, None, IsSome, Ok, Err, sym, ap, ◌∙◌, subst, arith}
 use Rattle.std.proofs.lemmas.List.{length-map, get_or-map, ext_get_or}
 use Rattle.mintc_text.specs.declared.refusals.Refusal.{Refusal}
 use Rattle.mintc_text.specs.declared.refusals.Refusal.TheVariants as refusal

@@ -1,11 +1,10 @@
 -- The design with edges apart of a netlist, delays, cells with their senses and a clock, or their first refusal.
-use Rattle.std.specs.Prelude.{◌≡◌, ℕ, List, [], Some, Ok, Err}
+use Rattle.std.specs.Prelude.{◌≡◌, ℕ, List, [], Err}
 use Rattle.mintc_text.specs.declared.limits.Most.{Most}
 use Rattle.mintc_text.specs.declared.refusals.Refusal.{Refusal}
 use Rattle.mintc_timing.specs.Design.{Design}
 use Rattle.mintc_netlist.specs.declared.module.Netlist.{Netlist}
 use Rattle.mintc_verilog.specs.Netlists.{IsNetlist}
-use Rattle.mintc_sdf.specs.declared.delays.Delay.{Delay}
 use Rattle.mintc_sdf.specs.Texts.{delays_of}
 use Rattle.mintc_sdf_edges.specs.declared.delays.EdgeDelay.{EdgeDelay}
 use Rattle.mintc_sdf_edges.specs.Texts.{AreTold}
