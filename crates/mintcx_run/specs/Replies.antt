@@ -82,6 +82,11 @@ use Rattle.mintcx_run.specs.declared.reply.Place.TheVariants as place
 use Rattle.mintcx_run.specs.declared.reply.Reply.{Reply}
 use Rattle.mintcx_clock_cells.specs.declared.unfit.Unfit.{Unfit}
 use Rattle.mintcx_clock_cells.specs.declared.unfit.Unfit.TheVariants as unfit
+use Rattle.mintcx_apart.specs.declared.apart.Apart.{Apart}
+use Rattle.mintcx_apart.specs.declared.apart.Apart.TheVariants as apart
+use Rattle.mintcx_edges.specs.declared.halt.Halt.{Halt}
+use Rattle.mintcx_edges.specs.declared.halt.Halt.TheVariants as halt
+use Rattle.mintcx_run.specs.Apart.{IsMade, IsUnmade, in_place, of_table}
 use Rattle.mintcx_run.specs.Libraries.{AreGiven, IsUndescribed}
 use Rattle.mintcx_run.specs.Taken.{AreTaken}
 use Rattle.mintcx_run.specs.Warned.{AreAllWarned}
@@ -490,10 +495,10 @@ IsCornerReply files order corner own reply = IsOutOfMemory reply
 
 -- ---- the reply
 
--- the answer to an order of the texts that are given, where it wants it, with its warnings and those of delays below 0
-abbrev pub IsAnswerReply : Order → List Text → List Text → Reply → Type 0
-IsAnswerReply order fronts given reply = (told : Told) × IsAnswered order given told × IsPlaced order told reply
-    × AreAllWarned order fronts given reply.warnings
+-- the answer to an order of the texts that are given, where it wants it, with these warnings
+abbrev pub IsAnswerReply : Order → List Text → Text → Reply → Type 0
+IsAnswerReply order given warnings reply = (told : Told) × IsAnswered order given told × IsPlaced order told reply
+    × (reply.warnings ≡ warnings)
 
 -- why there is none: the files are refused
 abbrev pub IsDeniedReply : Option Files → Order → List Text → Reply → Type 0
@@ -506,19 +511,49 @@ IsDeniedCorner files order given reply = (corner : ℕ) × (own : Refusal)
     × IsRefused order given (refusal.Corner corner) × IsFirstRefused large (corners_of given) 1 corner own
     × IsCornerReply files order corner own reply
 
+-- the reply to an order of the texts that are given: its answer, or why there is none
+abbrev pub IsTextsReply : Option Files → Order → List Text → Text → Reply → Type 0
+IsTextsReply files order given warnings reply = IsAnswerReply order given warnings reply
+    ⊎ (IsDeniedReply files order given reply ⊎ IsDeniedCorner files order given reply)
+
+-- why there is no design with edges apart: its refusal, or a message on a gate
+abbrev pub IsHaltReply : Option Files → Order → Halt → Reply → Type 0
+IsHaltReply files order (halt.Refused refused) reply = IsRefusalReply files order refused reply
+IsHaltReply files order halt.OutOfMemory reply = IsOutOfMemory reply
+IsHaltReply files order gate reply = IsMessage Usage reply
+
+-- the reply where there is one: that to the order, asked of its table in the place of the four files, or a message that
+-- no table can say it
+abbrev pub IsMadeReply : Option Files → Order → List Text → Text → Apart → Reply → Type 0
+IsMadeReply files order taken warnings (apart.Said table) reply =
+    IsTextsReply files (of_table order) (in_place table taken) warnings reply
+IsMadeReply files order taken warnings (apart.Unsaid obstacle) reply = IsMessage Found reply
+
+-- the reply to an order of the design with edges apart of what is taken of its files
+abbrev pub IsApartReply : Option Files → Order → List Text → Text → Reply → Type 0
+IsApartReply files order taken warnings reply =
+    ((why : Halt) × IsUnmade order taken why × IsHaltReply files order why reply)
+    ⊎ ((told : Apart) × IsMade order taken told × IsMadeReply files order taken warnings told reply)
+
+-- the reply to an order, by what it says of edges: of the texts that are given, or of what is taken of its files
+abbrev pub IsDesignReply : Option Files → Order → List Text → List Text → Text → Reply → Type 0
+IsDesignReply files order taken given warnings reply =
+    ((order.call.apart ≡ false) × IsTextsReply files order given warnings reply)
+    ⊎ ((order.call.apart ≡ true) × IsApartReply files order taken warnings reply)
+
 -- why a library has no description: its refusal, or a message on a gate
 abbrev pub IsUnfitReply : Option Files → Order → Unfit → Reply → Type 0
 IsUnfitReply files order (unfit.Refused refused) reply = IsRefusalReply files order refused reply
 IsUnfitReply files order unfit.OutOfMemory reply = IsOutOfMemory reply
 IsUnfitReply files order gate reply = IsMessage Usage reply
 
--- The reply to an order of what is taken of its files: its library has no description; or its answer, or why there is
--- none; or memory was wanting.
+-- The reply to an order of what is taken of its files: its library has no description; or its answer, with its warnings
+-- and those of delays below 0, or why there is none; or memory was wanting.
 abbrev pub IsTakenReply : Option Files → Order → List Text → List Text → Reply → Type 0
 IsTakenReply files order fronts taken reply = IsOutOfMemory reply
     ⊎ (((why : Unfit) × IsUndescribed order taken why × IsUnfitReply files order why reply)
-    ⊎ ((given : List Text) × AreGiven order taken given × (IsAnswerReply order fronts given reply
-    ⊎ (IsDeniedReply files order given reply ⊎ IsDeniedCorner files order given reply))))
+    ⊎ ((given : List Text) × (warnings : Text) × AreGiven order taken given × AreAllWarned order fronts given warnings
+    × IsDesignReply files order taken given warnings reply))
 
 -- The last file begins as the text of a schedule does.
 abbrev pub has_schedule : List Text → Bool
@@ -550,6 +585,7 @@ read_as order fronts = record {
     of_library = order.call.of_library;
     gates = order.call.gates;
     clamp = order.call.clamp;
+    apart = order.call.apart;
     files = order.call.files;
     certificate = order.call.certificate;
   };

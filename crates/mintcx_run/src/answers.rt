@@ -3,7 +3,7 @@ ghost use Rattle.std.specs.Prelude.{◌≡◌, ◌<◌, ◌≤◌, true, length,
 ghost use Rattle.mintc_text.specs.Limits.{large};
 ghost use Rattle.mintc_text.specs.Stops.{StopsAt};
 ghost use Rattle.mintc_command_answers.specs.Answers.{IsFirstRefusal, IsOfCommand};
-ghost use Rattle.mintc_command_answers.specs.Commands.{IsNumberInRange, roles_of};
+ghost use Rattle.mintc_command_answers.specs.Commands.{IsNumberInRange, roles_of, source_roles};
 ghost use Rattle.mintc_command_answers.specs.Corners.{IsFirstRefused, corners_of};
 ghost use Rattle.mintcx_answers.specs.Answers.{IsOnFiles};
 ghost use Rattle.mintcx_answers.specs.Clocks.{job_of};
@@ -25,6 +25,7 @@ use mintcx_answers::{
 use mintcx_frame::View;
 use mintcx_manners::Format;
 use mintcx_picture::Drawn;
+use mintcx_sdc::Titles;
 use mintcx_translation::{Aspect, Call};
 use std::alloc::Global;
 
@@ -132,6 +133,53 @@ fn lone_answer(alloc: Global, order: &Order, view: &View, files: &mut [Bytes]) -
     })
 }
 
+/// What clocks are called after, and the clock description that they are of.
+#[derive(Drop)]
+pub(crate) struct ClockNames {
+    titles: Titles,
+    clock: Option<ClockText>,
+}
+
+/// What clocks are called after, of the files of a design.
+fn clock_names_of(
+    alloc: Global,
+    source: Source,
+    names: &[Name],
+    files: &[Bytes],
+) -> Result<ClockNames, OutOfMemory>
+    requires names { length (source_roles source) < length names.now }
+    requires files { length (source_roles source) ≤ length files.now }
+{
+    Ok(ClockNames {
+        titles: titles_of(alloc, source, names, files)?,
+        clock: clock_among(alloc, source, names, files)?,
+    })
+}
+
+/// What clocks are called after where an order asks for clocks, of what is taken of its files.
+pub(crate) fn clock_names_for(
+    alloc: Global,
+    order: &Order,
+    files: &[Bytes],
+) -> Result<Option<ClockNames>, OutOfMemory>
+    requires count { length files.now ≡ length (roles_of order.now.call.command) }
+    requires names { length order.now.call.files ≡ length (roles_of order.now.call.command) }
+{
+    match (order.call.aspect, order.call.command) {
+        (
+            Aspect::Clocks,
+            Command::OfDesign {
+                job: Job::Check | Job::Verify,
+                source,
+            },
+        ) => {
+            let names = order.call.files.items();
+            Ok(Some(clock_names_of(alloc, source, names, files)?))
+        }
+        _ => Ok(None),
+    }
+}
+
 /// What is told of the clocks of a schedule, with the clock description that they are of.
 fn told_of(
     alloc: Global,
@@ -169,27 +217,41 @@ fn clocks_answer(
     alloc: Global,
     stated: Stated,
     source: Source,
-    names: &[Name],
+    called: &ClockNames,
     view: &View,
     files: &mut [Bytes],
 ) -> Result<Told, Stop>
     requires count { length files.old ≡ length (roles_of (Command.OfDesign (job_of stated) source)) }
-    requires names { length names.now ≡ length files.old }
     ensures value { IfOk result (AreClocks stated source files.old view.now) }
     ensures of_command { IfOk result (λ told. IsOfCommand told.status) }
     ensures stop { IfErr result
         (StopsAt (IsFirstRefusal large (Command.OfDesign (job_of stated) source) files.old)) }
 {
-    let titles = titles_of(alloc, source, names, files)?;
-    let clock = clock_among(alloc, source, names, files)?;
     let asked = Statement {
         source,
         stated,
-        titles: &titles,
+        titles: &called.titles,
         view,
     };
     let clocks = clocks_text(alloc, &Limits::large(), &asked, files)?;
-    Ok(told_of(alloc, clocks, &clock, view)?)
+    Ok(told_of(alloc, clocks, &called.clock, view)?)
+}
+
+/// What clocks are called after: what is known of them, or else by the files.
+fn called_so(
+    alloc: Global,
+    known: Option<ClockNames>,
+    source: Source,
+    names: &[Name],
+    files: &[Bytes],
+) -> Result<ClockNames, OutOfMemory>
+    requires names { length (source_roles source) < length names.now }
+    requires files { length (source_roles source) ≤ length files.now }
+{
+    match known {
+        Some(called) => Ok(called),
+        None => clock_names_of(alloc, source, names, files),
+    }
 }
 
 /// A message that nothing is drawn, and why.
@@ -317,6 +379,7 @@ fn table_answer(alloc: Global, source: Source, files: &mut [Bytes]) -> Result<To
 fn uncertified_answer(
     alloc: Global,
     order: &Order,
+    known: Option<ClockNames>,
     view: &View,
     files: &mut [Bytes],
 ) -> Result<Told, Halt>
@@ -337,14 +400,20 @@ fn uncertified_answer(
                 job: Job::Check,
                 source,
             },
-        ) => Ok(clocks_answer(alloc, Stated::Schedule, source, names, view, files)?),
+        ) => {
+            let called = called_so(alloc, known, source, names, files)?;
+            Ok(clocks_answer(alloc, Stated::Schedule, source, &called, view, files)?)
+        }
         (
             Aspect::Clocks,
             Command::OfDesign {
                 job: Job::Verify,
                 source,
             },
-        ) => Ok(clocks_answer(alloc, Stated::Certificate, source, names, view, files)?),
+        ) => {
+            let called = called_so(alloc, known, source, names, files)?;
+            Ok(clocks_answer(alloc, Stated::Certificate, source, &called, view, files)?)
+        }
         (
             Aspect::Table,
             Command::OfDesign {
@@ -361,7 +430,12 @@ fn uncertified_answer(
 }
 
 /// The answer to a call for people.
-fn people_answer(alloc: Global, order: &Order, files: &mut [Bytes]) -> Result<Told, Halt>
+fn people_answer(
+    alloc: Global,
+    order: &Order,
+    known: Option<ClockNames>,
+    files: &mut [Bytes],
+) -> Result<Told, Halt>
     requires count { length files.old ≡ length (roles_of order.now.call.command) }
     requires names { length order.now.call.files ≡ length (roles_of order.now.call.command) }
     requires in_range { IsNumberInRange order.now.call.command }
@@ -373,7 +447,7 @@ fn people_answer(alloc: Global, order: &Order, files: &mut [Bytes]) -> Result<To
     let view = view_of(alloc, order, files)?;
     match certified_source(&order.call) {
         Some(source) => Ok(certified_answer(alloc, source, &view, files)?),
-        None => uncertified_answer(alloc, order, &view, files),
+        None => uncertified_answer(alloc, order, known, &view, files),
     }
 }
 
@@ -394,8 +468,14 @@ fn is_own(order: &Order) -> bool
     matches!(order.manner.format, Format::Plain) && !has_one_form(order.call.aspect)
 }
 
-/// The answer to a call in its form, of the texts that are given.
-pub(crate) fn answer_of(alloc: Global, order: &Order, files: &mut [Bytes]) -> Result<Told, Halt>
+/// The answer to a call in its form, of the texts that are given; `known` is what clocks are called after, where that is
+/// not by these texts.
+pub(crate) fn answer_of(
+    alloc: Global,
+    order: &Order,
+    known: Option<ClockNames>,
+    files: &mut [Bytes],
+) -> Result<Told, Halt>
     requires count { length files.old ≡ length (roles_of order.now.call.command) }
     requires names { length order.now.call.files ≡ length (roles_of order.now.call.command) }
     requires in_range { IsNumberInRange order.now.call.command }
@@ -408,6 +488,6 @@ pub(crate) fn answer_of(alloc: Global, order: &Order, files: &mut [Bytes]) -> Re
     if is_own(order) {
         Ok(plain_answer(alloc, order, files)?)
     } else {
-        people_answer(alloc, order, files)
+        people_answer(alloc, order, known, files)
     }
 }

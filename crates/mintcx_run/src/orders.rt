@@ -5,7 +5,7 @@ ghost use Rattle.mintc_command.specs.Answers.{MakesAtMost};
 ghost use Rattle.mintc_command_answers.specs.Commands.{IsNumberInRange, roles_of};
 ghost use Rattle.mintcx_answers.specs.Answers.{IsOnFiles};
 ghost use Rattle.mintcx_requests.specs.Requests.{request_of};
-ghost use Rattle.mintcx_translation.specs.Calls.{cells_place};
+ghost use Rattle.mintcx_translation.specs.Calls.{cells_place, takes_four};
 ghost use Rattle.mintcx_run.specs.Replies.{IsEarlyReply, IsExplanationReply, IsFaultyReply, IsGapReply};
 ghost use Rattle.mintcx_run.specs.Replies.{IsOrderOf, IsOrdered, IsOtherReply, IsPageOf, IsPageOfRefusal};
 ghost use Rattle.mintcx_run.specs.Replies.{NamesNoRefusal, NamesNone};
@@ -51,6 +51,7 @@ fn design_order(
     ensures in_range { IfOk result (λ order. IsNumberInRange order.call.command) }
     ensures on_files { IfOk result (λ order. IsOnFiles order.call.command) }
     ensures library { IfOk result (λ order. order.call.of_library ≡ true → cells_place order.call.command < length order.call.files) }
+    ensures apart { IfOk result (λ order. order.call.apart ≡ true → takes_four order.call.command ≡ true) }
     ensures reply { IfErr result (IsGapReply (Request.OfDesign task design clamp manner)) }
 {
     match call_of(alloc, manner.format, clamp, task, design) {
@@ -100,6 +101,7 @@ fn order_of(alloc: Global, asked: Request) -> Result<Order, Reply>
     ensures in_range { IfOk result (λ order. IsNumberInRange order.call.command) }
     ensures on_files { IfOk result (λ order. IsOnFiles order.call.command) }
     ensures library { IfOk result (λ order. order.call.of_library ≡ true → cells_place order.call.command < length order.call.files) }
+    ensures apart { IfOk result (λ order. order.call.apart ≡ true → takes_four order.call.command ≡ true) }
     ensures reply { IfErr result (IsOtherReply asked) }
 {
     match asked {
@@ -124,6 +126,7 @@ pub(crate) fn order_for<S: Shelf>(
     ensures in_range { IfOk result (λ order. IsNumberInRange order.call.command) }
     ensures on_files { IfOk result (λ order. IsOnFiles order.call.command) }
     ensures library { IfOk result (λ order. order.call.of_library ≡ true → cells_place order.call.command < length order.call.files) }
+    ensures apart { IfOk result (λ order. order.call.apart ≡ true → takes_four order.call.command ≡ true) }
     ensures reply { IfErr result (IsEarlyReply given (S.files shelf.old)) }
     ensures no_fault { IfErr result (λ reply. reply.status ≢ Status.WriteFault) }
     ensures same { S.files shelf.new ≡ S.files shelf.old }

@@ -1,0 +1,7 @@
+mod MergedLaws
+mod FormLaws
+mod PlainLaws
+mod HaltLaws
+mod KeptLaws
+mod StopLaws
+mod SenseLaws

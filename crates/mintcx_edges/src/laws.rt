@@ -1,0 +1,61 @@
+//! What the definitions of designs and refusals say: a law is the contract of a function that does nothing of its own.
+ghost use Rattle.std.specs.Prelude.{[]};
+ghost use Rattle.mintc_build.specs.FilesDesign.{described_by, library_by};
+ghost use Rattle.mintcx_edges.specs.EdgeFiles.{description, library_with};
+ghost use Rattle.mintcx_edges.specs.Laws.{AreEdgePlain, LibrariesArePlain, LibrariesAreNotHalted};
+ghost use Rattle.mintcx_edges.specs.Laws.{CyclesAreNoGreater, SchedulesAreKept};
+
+use mintc_cells::{bad_cells_are_determined, cells_are_determined, cells_are_not_refused};
+use mintc_clock::{bad_clocks_are_determined, clocks_are_determined, clocks_are_not_refused};
+use mintc_edges::{
+    edge_cycles_are_no_greater, edge_designs_are_determined, edge_schedules_are_kept,
+};
+use mintc_sdf_edges::delays_merge;
+use mintc_verilog::texts_are_plain;
+
+/// Four files have one design with edges apart or one refusal at most, and never both, whether their cells are
+/// described or those of a library with gates for the clock.
+pub fn edge_files_are_plain()
+    ensures described { AreEdgePlain description }
+    ensures library { LibrariesArePlain }
+{
+    texts_are_plain();
+    cells_are_determined();
+    cells_are_not_refused();
+    bad_cells_are_determined();
+    clocks_are_determined();
+    clocks_are_not_refused();
+    bad_clocks_are_determined();
+    edge_designs_are_determined();
+}
+
+/// Where four files have a design with edges apart, nothing but memory can be wanting.
+pub fn edge_libraries_are_not_halted()
+    ensures { LibrariesAreNotHalted }
+{
+    edge_files_are_plain();
+}
+
+/// A schedule that is right for the merged design of four files is right for the one with edges apart.
+pub fn edge_schedules_of_files_are_kept()
+    ensures described { SchedulesAreKept described_by description }
+    ensures library { SchedulesAreKept library_by (library_with []) }
+{
+    texts_are_plain();
+    cells_are_determined();
+    clocks_are_determined();
+    delays_merge();
+    edge_schedules_are_kept();
+}
+
+/// The least cycle of four files with edges apart is at most that of their merged design.
+pub fn edge_cycles_of_files_are_no_greater()
+    ensures described { CyclesAreNoGreater described_by description }
+    ensures library { CyclesAreNoGreater library_by (library_with []) }
+{
+    texts_are_plain();
+    cells_are_determined();
+    clocks_are_determined();
+    delays_merge();
+    edge_cycles_are_no_greater();
+}
