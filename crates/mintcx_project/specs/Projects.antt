@@ -67,17 +67,24 @@ are_delays_in at = is_text_in true at || are_texts_in true at
 abbrev pub text_fault : List ℕ → Members → Option ProjectFault
 text_fault key ms = value_fault (is_text_in true (get_member key ms)) key
 
--- the first fault of the table `design`, in the order of its keys here
-abbrev pub design_fault : Members → Option ProjectFault
-design_fault ms = option_or (stray_fault design_keys ms)
+-- the first fault of what the table `design` names, in the order of its keys here
+abbrev pub names_fault : Members → Option ProjectFault
+names_fault ms = option_or (stray_fault design_keys ms)
     (option_or (text_fault (codes "netlist") ms)
     (option_or (value_fault (are_delays_in (get_member (codes "sdf") ms)) (codes "sdf"))
     (option_or (text_fault (codes "cells") ms)
     (option_or (text_fault (codes "lib") ms)
     (option_or (value_fault (are_texts_in true (get_member (codes "clock-cells") ms)) (codes "clock-cells"))
     (option_or (text_fault (codes "clock") ms)
-    (option_or (text_fault (codes "table") ms)
-    (value_fault (is_one_of edge_words (codes "merged") (get_member (codes "edges") ms)) (codes "edges")))))))))
+    (text_fault (codes "table") ms)))))))
+
+-- what the table `design` says of edges is no word for it
+abbrev pub edges_fault : Members → Option ProjectFault
+edges_fault ms = value_fault (is_one_of edge_words (codes "merged") (get_member (codes "edges") ms)) (codes "edges")
+
+-- the first fault of the table `design`: of its keys and of what they name, then of edges
+abbrev pub design_fault : Members → Option ProjectFault
+design_fault ms = option_or (names_fault ms) (edges_fault ms)
 
 -- the first fault of the table `answer`
 abbrev pub answer_fault : Members → Option ProjectFault

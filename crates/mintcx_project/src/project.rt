@@ -6,6 +6,7 @@ ghost use Rattle.toml.specs.View.{table_view};
 ghost use Rattle.mintcx_manners.specs.Manners.{unit_of};
 ghost use Rattle.mintcx_project.specs.Edges.{edges_of};
 ghost use Rattle.mintcx_project.specs.Projects.{stray_fault, value_fault, text_fault, design_fault, answer_fault};
+ghost use Rattle.mintcx_project.specs.Projects.{edges_fault, names_fault};
 ghost use Rattle.mintcx_project.specs.Projects.{project_fault, is_table_in, text_at, table_at, folder_len, beside};
 ghost use Rattle.mintcx_project.specs.Projects.{path_at, delays_in, with_paths, with_lists, no_sources, sources_in};
 ghost use Rattle.mintcx_project.specs.Projects.{settings_of, Settles, IsTomlFault, Says, IsFaultOf, no_settings};
@@ -171,9 +172,9 @@ fn check_text(alloc: Global, table: &Table, key: &str) -> Result<(), ProjectFaul
     check_value(alloc, is_text(table, key, true), key)
 }
 
-/// Refuses what the table of the design may not hold.
-fn check_design(alloc: Global, table: &Table) -> Result<(), ProjectFault>
-    ensures { Settles (design_fault (table_view table.now)) result }
+/// Refuses what the table of the design may not name.
+fn check_names(alloc: Global, table: &Table) -> Result<(), ProjectFault>
+    ensures { Settles (names_fault (table_view table.now)) result }
 {
     check_keys(alloc, table, &DESIGN_KEYS)?;
     check_text(alloc, table, "netlist")?;
@@ -183,8 +184,22 @@ fn check_design(alloc: Global, table: &Table) -> Result<(), ProjectFault>
     check_text(alloc, table, "lib")?;
     check_value(alloc, are_names(table, "clock-cells", true), "clock-cells")?;
     check_text(alloc, table, "clock")?;
-    check_text(alloc, table, "table")?;
+    check_text(alloc, table, "table")
+}
+
+/// Refuses what is no word for edges.
+fn check_edges(alloc: Global, table: &Table) -> Result<(), ProjectFault>
+    ensures { Settles (edges_fault (table_view table.now)) result }
+{
     check_value(alloc, is_one_of(table, "edges", &EDGES, "merged"), "edges")
+}
+
+/// Refuses what the table of the design may not hold.
+fn check_design(alloc: Global, table: &Table) -> Result<(), ProjectFault>
+    ensures { Settles (design_fault (table_view table.now)) result }
+{
+    check_names(alloc, table)?;
+    check_edges(alloc, table)
 }
 
 /// Refuses what the table of the answer may not hold.

@@ -197,7 +197,7 @@ fn back_args<'a>(
         "WORD",
         words.edges,
         "merged",
-        "apart keeps the rising and the falling delay of each arc: no longer a cycle, and often less",
+        "apart takes rising and falling delays each by itself: a cycle never longer",
     )
     .help_heading("Design");
     let clamp = flag(
