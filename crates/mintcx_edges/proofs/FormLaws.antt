@@ -1,5 +1,5 @@
 -- A library with gates for the clock has one list of cells at most, which is its own where no gate is named.
-use Rattle.std.proofs.Common.{◌≡◌, ℕ, ◌<◌, List, [], length, get_or, All, Option, Some, None, IsSome, Ok, Err, refl, sym, ap, ◌∙◌, subst, arith}
+use Rattle.std.proofs.Common.{◌≡◌, ℕ, ◌<◌, List, [], length, get_or, All, Option, Some, None, IsSome, Ok, Err, sym, ap, ◌∙◌, subst, arith}
 use Rattle.std.proofs.lemmas.List.{length-map, get_or-map, ext_get_or}
 use Rattle.mintc_text.specs.declared.refusals.Refusal.{Refusal}
 use Rattle.mintc_text.specs.declared.refusals.Refusal.TheVariants as refusal
@@ -13,7 +13,7 @@ use Rattle.mintc_flatten_hierarchy.specs.Shape.{CellTable}
 use Rattle.mintc_build.specs.FilesDesign.{CellText, described_by, library_by, IsLibraryRefusal}
 use Rattle.mintcx_clock_cells.specs.Clocks.{Senses, HasClockCells, IsFit, IsUnknown, IsUnusable, IsFirstUnfit, IsUnfit, senses_in, cell_for, clock_at}
 use Rattle.mintcx_clock_cells.specs.declared.unfit.Unfit.TheVariants as unfit
-use Rattle.mintcx_edges.specs.EdgeFiles.{SensedText, description, library_with}
+use Rattle.mintcx_edges.specs.EdgeFiles.{SensedText, description, library_with, cells_with}
 
 -- ---- forms of cells
 
@@ -103,6 +103,9 @@ library_same c a b h k =
     let own : a ≡ k.own = one-library c a k.own h k.library in
     own ∙ sym (same-cells b k.own k.names (λ i l. k.each i (omega (arith, l, same-length b k.own k.names))))
 
+pub gated_same : (gates : List (List ℕ)) → AreSameForms (cells_with gates) (library_with gates)
+gated_same gates = one_gated gates
+
 -- ---- gates that are fit aren't told
 
 one_place : (o : Option ℕ) (n m : ℕ) → o ≡ Some n → o ≡ Some m → n ≡ m
@@ -110,6 +113,10 @@ one_place o n m h k = cc
 
 no_place : (o : Option ℕ) (n : ℕ) → o ≡ None → o ≡ Some n → ⊥
 no_place o n h k = absurd (cc)
+
+nothing_there : (o : Option Cell) → IsSome o → o ≡ None → ⊥
+nothing_there None h none = absurd (cc)
+nothing_there (Some cell) h none = absurd (cc)
 
 module _ (senses : Senses) (own : CellTable) (gates : List (List ℕ)) (at : ℕ) (fit : All (IsFit senses own) gates) where
   all_known : IsFirstUnfit senses own gates at (IsUnknown own) → ⊥
@@ -119,7 +126,7 @@ module _ (senses : Senses) (own : CellTable) (gates : List (List ℕ)) (at : ℕ
   all_usable first =
       let here = fit at [] first.within in
       let same : here.0 ≡ first.this.0 = one_place (number_of own (get_or gates at [])) here.0 first.this.0 here.1 first.this.1 in
-      subst (λ (o : Option Cell). IsSome o) (ap (clock_at senses own) same ∙ first.this.2) here.2
+      nothing_there (clock_at senses own here.0) here.2 (ap (clock_at senses own) same ∙ first.this.2)
 
 pub gates_known : (l : List ℕ) (gates : List (List ℕ)) (cells : CellTable) (at : ℕ) → HasClockCells l gates cells → IsUnfit l gates (unfit.Unknown at) → ⊥
 gates_known l gates cells at has (own, is, first) =

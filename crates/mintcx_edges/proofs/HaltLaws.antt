@@ -1,10 +1,7 @@
 -- Where four texts have a design, nothing but memory can be wanting.
-use Rattle.std.proofs.Common.{◌≡◌, ℕ, List, refl}
-use Rattle.mintc_text.specs.declared.limits.Most.{Most}
-use Rattle.mintc_timing.specs.Design.{Design}
+use Rattle.std.proofs.Common.{◌≡◌, refl}
 use Rattle.mintcx_edges.specs.declared.halt.Halt.{Halt}
 use Rattle.mintcx_edges.specs.declared.halt.Halt.TheVariants as halt
-use Rattle.mintcx_edges.specs.EdgeFiles.{IsEdgeLibertyDesign}
 use Rattle.mintcx_edges.specs.Halts.{IsEdgeHalt}
 use Rattle.mintcx_edges.specs.Laws.{LibrariesArePlain, LibrariesAreNotHalted}
 use Rattle.mintcx_edges.proofs.FormLaws.{gates_known, gates_usable}

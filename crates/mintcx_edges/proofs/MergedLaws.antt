@@ -1,7 +1,6 @@
 -- Delays by edge say together, whatever their edges, what the delays say that they merge to.
-use Rattle.std.proofs.Common.{◌≡◌, ℤ, ◌≤ℤ◌, Bool, true, false, cond, ◌||◌, List, [], ◌∷◌, ◌++◌, map, flat_map, get_or, length, All, Option, Some, None, arith, refl, ap, ◌∙◌, sym, subst}
+use Rattle.std.proofs.Common.{◌≡◌, ℤ, ◌≤ℤ◌, Bool, true, false, cond, ◌||◌, List, [], ◌∷◌, ◌++◌, map, get_or, All, Option, Some, None, arith, refl, ap, ◌∙◌, sym, subst}
 use Rattle.std.specs.Int.{int_min, int_max}
-use Rattle.std.specs.List.{list_any}
 use Rattle.std.proofs.lemmas.Int.{ints, clamps, int_min_is, int_max_is}
 use Rattle.std.proofs.lemmas.Grind.{flat_map-append}
 use Rattle.std.proofs.lemmas.List.{map-append}
@@ -109,11 +108,11 @@ module _ (h : Hierarchy) (cells : CellTable) (d : Delay) (m : Target) where
   mine-said (e ∷ es) of =
       said-append (said_by h cells e.delay) (said h cells (without_edges es)) m
       ∙ ap (λ r. wider r (range_of (said h cells (without_edges es)) m)) first
-      ∙ ap (wider (cond (is_target (targets (resolved h cells d)) m) (span e) None)) (mine-said es (All-tail _ e es of))
+      ∙ ap (wider (cond (is_target (targets (resolved h cells d)) m) (span e) None)) (mine-said es (All-tail (λ (x : EdgeDelay). x.delay ≡ with_span d (x.delay.least, x.delay.greatest)) e es of))
       ∙ by (is_target (targets (resolved h cells d)) m)
     where
       first : range_of (said_by h cells e.delay) m ≡ cond (is_target (targets (resolved h cells d)) m) (span e) None
-      first = ap (λ x. range_of (said_by h cells x) m) (All-head _ e es of) ∙ by-span h cells d (e.delay.least, e.delay.greatest) m
+      first = ap (λ x. range_of (said_by h cells x) m) (All-head (λ (x : EdgeDelay). x.delay ≡ with_span d (x.delay.least, x.delay.greatest)) e es of) ∙ by-span h cells d (e.delay.least, e.delay.greatest) m
 
       by : (b : Bool) → wider (cond b (span e) None) (cond b (widest (map span es)) None) ≡ cond b (widest (map span (e ∷ es))) None
       by true = refl

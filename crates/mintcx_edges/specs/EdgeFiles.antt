@@ -1,11 +1,10 @@
 -- The design with edges apart of a netlist, delays, cells with their senses and a clock, or their first refusal.
-use Rattle.std.specs.Prelude.{◌≡◌, ℕ, List, [], Some, Ok, Err}
+use Rattle.std.specs.Prelude.{◌≡◌, ℕ, List, [], Err}
 use Rattle.mintc_text.specs.declared.limits.Most.{Most}
 use Rattle.mintc_text.specs.declared.refusals.Refusal.{Refusal}
 use Rattle.mintc_timing.specs.Design.{Design}
 use Rattle.mintc_netlist.specs.declared.module.Netlist.{Netlist}
 use Rattle.mintc_verilog.specs.Netlists.{IsNetlist}
-use Rattle.mintc_sdf.specs.declared.delays.Delay.{Delay}
 use Rattle.mintc_sdf.specs.Texts.{delays_of}
 use Rattle.mintc_sdf_edges.specs.declared.delays.EdgeDelay.{EdgeDelay}
 use Rattle.mintc_sdf_edges.specs.Texts.{AreTold}
@@ -30,12 +29,13 @@ pub record SensedText : Type 1 where
 abbrev pub description : List ℕ → SensedText
 description text = record { cells = described_by text; senses = λ cells. [] }
 
+-- the cells of a Liberty library, with gates of these names for the clock
+abbrev pub cells_with : List (List ℕ) → List ℕ → CellText
+cells_with gates text = record { Describes = HasClockCells text gates; Refuses = IsLibraryRefusal text }
+
 -- a Liberty library with gates of these names for the clock, and the senses that it says of its cells with these gates
 abbrev pub library_with : List (List ℕ) → List ℕ → SensedText
-library_with gates text = record {
-  cells = record { Describes = HasClockCells text gates; Refuses = IsLibraryRefusal text };
-  senses = senses_in text;
-}
+library_with gates text = record { cells = cells_with gates text; senses = senses_in text }
 
 -- All four texts are in form, and these are what they give, the delays by edge.
 pub record AreReadApart (v d : List ℕ) (c : CellText) (k : List ℕ) (netlist : Netlist) (delays : List EdgeDelay)

@@ -6,12 +6,20 @@ use Rattle.mintc_timing.specs.declared.clocking.Schedule.{Schedule}
 use Rattle.mintc_timing.specs.Design.{Design, Timing}
 use Rattle.mintc_timing.specs.Paths.{ArePairs}
 use Rattle.mintc_timing.specs.Right.{IsRight, IsLeastCycle}
+use Rattle.mintc_senses_expressions.specs.Transitions.{all_transitions}
+use Rattle.mintc_flatten_hierarchy.specs.Shape.{CellTable}
+use Rattle.mintc_edges.specs.Numbers.{sense_of}
 use Rattle.mintc_build.specs.FilesDesign.{CellText, IsDesignOver}
 use Rattle.mintcx_edges.specs.declared.halt.Halt.{Halt}
 use Rattle.mintcx_edges.specs.declared.halt.Halt.TheVariants as halt
-use Rattle.mintcx_edges.specs.EdgeFiles.{SensedText, library_with, IsEdgeDesignOver, IsEdgeRefusalOver}
-use Rattle.mintcx_edges.specs.EdgeFiles.{IsEdgeLibertyDesign}
+use Rattle.mintcx_edges.specs.EdgeFiles.{SensedText, description, library_with, cells_with, IsEdgeDesignOver}
+use Rattle.mintcx_edges.specs.EdgeFiles.{IsEdgeRefusalOver, IsEdgeLibertyDesign}
 use Rattle.mintcx_edges.specs.Halts.{IsEdgeHalt}
+
+-- Of cells that are described each edge of an input may make both edges of an output.
+abbrev pub DescribedEdgesMakeBoth : Type 0
+DescribedEdgesMakeBoth = (text : List ℕ) (cells : CellTable) (cell input output : ℕ) →
+    sense_of ((description text).senses cells) cells cell input output ≡ all_transitions
 
 -- Texts whose cells are read in one form have one design with edges apart or one refusal at most, and never both.
 pub record AreEdgePlain (by : List ℕ → SensedText) : Type 0 where
@@ -52,3 +60,11 @@ abbrev pub CyclesAreNoGreater : (List ℕ → CellText) → (List ℕ → Sensed
 CyclesAreNoGreater by with_senses = (most : Most) (v d c k : List ℕ) (merged apart : Timing) →
     AreTimingsOf most v d (by c) (with_senses c) k merged apart → (num den own_num own_den : ℤ) →
     IsLeastCycle merged num den → IsLeastCycle apart own_num own_den → (own_num *ℤ den) ≤ℤ (num *ℤ own_den)
+
+-- so it is of the designs of a library with gates for the clock, whichever they are
+abbrev pub GatedSchedulesAreKept : Type 0
+GatedSchedulesAreKept = (gates : List (List ℕ)) → SchedulesAreKept (cells_with gates) (library_with gates)
+
+-- and of their least cycles
+abbrev pub GatedCyclesAreNoGreater : Type 0
+GatedCyclesAreNoGreater = (gates : List (List ℕ)) → CyclesAreNoGreater (cells_with gates) (library_with gates)

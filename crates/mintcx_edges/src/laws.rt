@@ -3,7 +3,8 @@ ghost use Rattle.std.specs.Prelude.{[]};
 ghost use Rattle.mintc_build.specs.FilesDesign.{described_by, library_by};
 ghost use Rattle.mintcx_edges.specs.EdgeFiles.{description, library_with};
 ghost use Rattle.mintcx_edges.specs.Laws.{AreEdgePlain, LibrariesArePlain, LibrariesAreNotHalted};
-ghost use Rattle.mintcx_edges.specs.Laws.{CyclesAreNoGreater, SchedulesAreKept};
+ghost use Rattle.mintcx_edges.specs.Laws.{CyclesAreNoGreater, DescribedEdgesMakeBoth, GatedCyclesAreNoGreater};
+ghost use Rattle.mintcx_edges.specs.Laws.{GatedSchedulesAreKept, SchedulesAreKept};
 
 use mintc_cells::{bad_cells_are_determined, cells_are_determined, cells_are_not_refused};
 use mintc_clock::{bad_clocks_are_determined, clocks_are_determined, clocks_are_not_refused};
@@ -12,6 +13,11 @@ use mintc_edges::{
 };
 use mintc_sdf_edges::delays_merge;
 use mintc_verilog::texts_are_plain;
+
+/// A description says no senses: each edge of an input may make both edges of an output.
+pub fn described_edges_make_both()
+    ensures { DescribedEdgesMakeBoth }
+{}
 
 /// Four files have one design with edges apart or one refusal at most, and never both, whether their cells are
 /// described or those of a library with gates for the clock.
@@ -36,10 +42,12 @@ pub fn edge_libraries_are_not_halted()
     edge_files_are_plain();
 }
 
-/// A schedule that is right for the merged design of four files is right for the one with edges apart.
+/// A schedule that is right for the merged design of four files is right for the one with edges apart, whether their
+/// cells are described, those of a library, or those of a library with gates for the clock.
 pub fn edge_schedules_of_files_are_kept()
     ensures described { SchedulesAreKept described_by description }
     ensures library { SchedulesAreKept library_by (library_with []) }
+    ensures gated { GatedSchedulesAreKept }
 {
     texts_are_plain();
     cells_are_determined();
@@ -52,6 +60,7 @@ pub fn edge_schedules_of_files_are_kept()
 pub fn edge_cycles_of_files_are_no_greater()
     ensures described { CyclesAreNoGreater described_by description }
     ensures library { CyclesAreNoGreater library_by (library_with []) }
+    ensures gated { GatedCyclesAreNoGreater }
 {
     texts_are_plain();
     cells_are_determined();

@@ -15,6 +15,6 @@ mod reading;
 pub use files::{from_edge_files, from_edge_liberty};
 pub use halt::Halt;
 pub use laws::{
-    edge_cycles_of_files_are_no_greater, edge_files_are_plain, edge_libraries_are_not_halted,
-    edge_schedules_of_files_are_kept,
+    described_edges_make_both, edge_cycles_of_files_are_no_greater, edge_files_are_plain,
+    edge_libraries_are_not_halted, edge_schedules_of_files_are_kept,
 };
