@@ -14,6 +14,7 @@ ghost use Rattle.mintcx_answers.specs.Answers.{IsToldVerdict};
 ghost use Rattle.mintcx_answers.specs.Clocks.{AreHolds, HasClocks, IsBeyond, IsChosen, IsClockIn, IsDenied};
 ghost use Rattle.mintcx_answers.specs.Clocks.{IsOfCertificate, IsOfFiles, IsOfLeast, IsOfSchedule, IsOfText};
 ghost use Rattle.mintcx_answers.specs.Clocks.{IsRaised, IsRoundedUp, IsSaid, command_of, is_hold, job_of};
+ghost use Rattle.mintcx_answers.specs.Clocks.{AreBeside, HasClocksBeside, IsClockBeside, IsReadBeside, of_phases};
 
 use crate::jobs::{cycle_of, failed};
 use crate::verdicts::{Judged, told_verdict};
@@ -363,4 +364,98 @@ pub fn clocks_text(
     }
     let read = clock_in(alloc, limits, asked.source, files)?;
     design_clocks(alloc, limits, asked, read, files)
+}
+
+/// The clock of a description, where it can be read.
+fn read_beside(alloc: Global, text: &[u8]) -> Result<Option<Clock>, OutOfMemory>
+    ensures { IfOk result (IsReadBeside text.now) }
+{
+    if text.len() > MOST_BYTES {
+        return Ok(None);
+    }
+    match read_clock(alloc, text) {
+        Ok(clock) => Ok(Some(clock)),
+        Err(Stop::Refused(_)) => Ok(None),
+        Err(Stop::OutOfMemory) => Err(OutOfMemory),
+    }
+}
+
+/// A clock, where it has so many phases.
+fn of_phases(count: u32, read: Option<Clock>) -> Option<Clock>
+    ensures { result ≡ of_phases count read }
+{
+    match read {
+        Some(clock) if clock.phases.items().len() == count as usize => Some(clock),
+        _ => None,
+    }
+}
+
+/// The clock of a description beside a table, or that of the table, by the names of its phases.
+fn clock_beside(alloc: Global, system: &System, text: &[u8]) -> Result<Clock, OutOfMemory>
+    ensures value { IfOk result (IsClockBeside text.now system.now) }
+    ensures limits { IfOk result KeepsLimits }
+    ensures alike { IfOk result (λ clock. length clock.phases ≡ phase_count system.now.flat) }
+{
+    clocks_keep_limits();
+    let read = read_beside(alloc, text)?;
+    match of_phases(system.flat().phase_count(), read) {
+        Some(clock) => Ok(clock),
+        None => clock_by_names(alloc, system.flat()),
+    }
+}
+
+/// The clocks of the schedule of a text behind a table, none of them too long, with the clock description beside it; or
+/// their first refusal.
+fn table_clocks(
+    alloc: Global,
+    limits: &Limits,
+    asked: &Statement<'_>,
+    clock: &[u8],
+    texts: &mut [Bytes],
+) -> Result<Clocks, Stop>
+    requires all { length (source_roles Source.Table) ≤ length texts.old }
+    requires short { AreShort limits.now texts.old }
+    ensures value { IfOk result (AreBeside limits.now asked.now.stated clock.now asked.now.titles.now
+        asked.now.view.now texts.old) }
+    ensures stop { IfErr result
+        (StopsAt (IsJobRefusal limits.now (job_of asked.now.stated) Source.Table texts.old)) }
+{
+    let system = system_of(alloc, limits, Source::Table, texts)?;
+    let clock = clock_beside(alloc, &system, clock)?;
+    let clocked = Clocked {
+        system: &system,
+        clock: &clock,
+        titles: asked.titles,
+        view: asked.view,
+    };
+    let file = own_file(limits, Source::Table, texts);
+    text_clocks(alloc, limits, asked.stated, &clocked, file)
+}
+
+/// The clocks of a schedule as SDC, of a table and of the file behind it, with the clock description of the files that
+/// the table is made of; or their first refusal, which is that of mintc's command for a table.
+pub fn clocks_text_beside(
+    alloc: Global,
+    limits: &Limits,
+    asked: &Statement<'_>,
+    clock: &[u8],
+    files: &mut [Bytes],
+) -> Result<Clocks, Stop>
+    requires count { length files.old ≡ length (roles_of (command_of asked.now.stated Source.Table)) }
+    ensures value { IfOk result (HasClocksBeside limits.now asked.now.stated clock.now asked.now.titles.now
+        asked.now.view.now files.old) }
+    ensures stop { IfErr result (StopsAt (IsFirstRefusal limits.now (command_of asked.now.stated Source.Table) files.old)) }
+{
+    let job = match asked.stated {
+        Stated::Schedule => Job::Check,
+        Stated::Certificate => Job::Verify,
+    };
+    let command = Command::OfDesign {
+        job,
+        source: Source::Table,
+    };
+    if let Some(refusal) = too_long(limits, command.roles(), files) {
+        return Err(Stop::Refused(refusal));
+    }
+    table_clocks(alloc, limits, asked, clock, files)
 }

@@ -18,6 +18,7 @@ use Rattle.mintcx_explanations.specs.Explanations.{IsOfNumber, IsRefusalNumber, 
 use Rattle.mintc_text.specs.Limits.{large}
 use Rattle.mintc_command_answers.specs.Corners.{IsFirstRefused, corners_of}
 use Rattle.mintcx_run.specs.declared.answers.Told.{Told}
+use Rattle.mintcx_run.specs.declared.orders.Made.{Made}
 use Rattle.mintcx_run.specs.declared.orders.Order.{Order}
 use Rattle.mintcx_run.specs.declared.reply.Reply.{Reply}
 use Rattle.mintcx_clock_cells.specs.declared.unfit.Unfit.{Unfit}
@@ -25,7 +26,7 @@ use Rattle.mintcx_run.specs.Libraries.{AreGiven, IsUndescribed}
 use Rattle.mintcx_apart.specs.declared.apart.Apart.{Apart}
 use Rattle.mintcx_apart.specs.declared.apart.Apart.TheVariants as apart
 use Rattle.mintcx_edges.specs.declared.halt.Halt.{Halt}
-use Rattle.mintcx_run.specs.Apart.{IsMade, IsUnmade, in_place, of_table}
+use Rattle.mintcx_run.specs.Apart.{IsMade, IsMadeOf, IsUnmade, in_place, of_table}
 use Rattle.mintcx_run.specs.Replies.{AreUnread, IsAnswered, IsApartReply, IsCallReply, IsCornerReply, IsDesignReply, IsEarlyReply, IsExplanationReply, IsGiven, IsGivenReply, IsHaltReply, IsMadeReply, IsMessage, IsOrdered, IsOtherReply, IsOutOfMemory, IsPageOf, IsPageOfRefusal, IsPlaced, IsRefusalReply, IsRefused, IsReply, IsSettings, IsTakenReply, IsTextsReply, IsUnfitReply, IsUnread, IsWordsReply, NamesNoRefusal, NamesNone, read_as}
 use Rattle.mintc_command_answers.specs.Sources.{file_at}
 use Rattle.mintcx_run.specs.Taken.{AreTaken, IsTaken, is_asked}
@@ -73,11 +74,14 @@ pub texts_refused_corner : (files : Option Files) (order : Order) (given : List 
 texts_refused_corner files order given warnings corner own reply h first said = inr (inr (inr (corner, own, h, first, said)))
 
 -- the reply where there is a design with edges apart: of its table, or that none can say it
-pub made_said : (files : Option Files) (order asked : Order) (table : Text) (taken texts : List Text) (warnings : Text) (reply : Reply) → asked ≡ of_table order → texts ≡ in_place table taken →
+pub made_said : (files : Option Files) (order asked : Order) (made : Made) (table : Text) (taken texts : List Text) (warnings : Text) (reply : Reply) → IsMadeOf taken made → asked ≡ of_table order made → texts ≡ in_place table taken →
     IsOutOfMemory reply ⊎ IsTextsReply files asked texts warnings reply → IsOutOfMemory reply ⊎ IsMadeReply files order taken warnings (apart.Said table) reply
-made_said files order asked table taken texts warnings reply same put h =
-    subst (λ (o : Order). IsOutOfMemory reply ⊎ IsTextsReply files o (in_place table taken) warnings reply) same
-    (subst (λ (ts : List Text). IsOutOfMemory reply ⊎ IsTextsReply files asked ts warnings reply) put h)
+made_said files order asked made table taken texts warnings reply of same put (inl wanting) = inl wanting
+made_said files order asked made table taken texts warnings reply of same put (inr h) = inr (
+  made,
+  of,
+  subst (λ (o : Order). IsTextsReply files o (in_place table taken) warnings reply) same (subst (λ (ts : List Text). IsTextsReply files asked ts warnings reply) put h),
+)
 
 -- the reply to an order of a design with edges apart
 pub apart_made : (files : Option Files) (order : Order) (taken : List Text) (warnings : Text) (told : Apart) (reply : Reply) → IsMade order taken told →

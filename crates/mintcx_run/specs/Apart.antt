@@ -1,8 +1,8 @@
 -- A table of the design with edges apart, in the place of the four files of an order.
-use Rattle.std.specs.Prelude.{◌⊎◌, ◌++◌, ◌∷◌, Bool, true, false, List, take, drop}
+use Rattle.std.specs.Prelude.{◌≡◌, ◌⊎◌, ◌++◌, ◌∷◌, Bool, true, false, List, take, drop, Some}
 use Rattle.mintc_text.specs.Limits.{large}
 use Rattle.mintc_command_answers.specs.Commands.{roles_of}
-use Rattle.mintc_command_answers.specs.Sources.{AreShort, IsLengthRefusal}
+use Rattle.mintc_command_answers.specs.Sources.{AreShort, IsLengthRefusal, file_at}
 use Rattle.mintc_command_answers.specs.declared.command.Command.{Command}
 use Rattle.mintc_command_answers.specs.declared.command.Command.TheVariants.{OfDesign}
 use Rattle.mintc_command_answers.specs.declared.command.Source.TheVariants as source
@@ -11,6 +11,7 @@ use Rattle.mintcx_apart.specs.declared.apart.Apart.{Apart}
 use Rattle.mintcx_edges.specs.declared.halt.Halt.{Halt}
 use Rattle.mintcx_edges.specs.declared.halt.Halt.TheVariants as halt
 use Rattle.mintcx_requests.specs.Requests.{Text}
+use Rattle.mintcx_run.specs.declared.orders.Made.{Made}
 use Rattle.mintcx_run.specs.declared.orders.Order.{Order}
 
 -- the cells of a command are those of a library, which is described for it or not
@@ -35,9 +36,13 @@ abbrev pub on_table : Command → Command
 on_table (OfDesign job from) = OfDesign job source.Table
 on_table command = command
 
--- An order of four files, asked of a table in their place, which goes by the name of the netlist.
-abbrev pub of_table : Order → Order
-of_table order = record {
+-- the clock description of the four texts that a table is made of
+abbrev pub IsMadeOf : List Text → Made → Type 0
+IsMadeOf taken made = made.clock.text ≡ file_at taken 3
+
+-- An order of four files, asked of a table in their place, which is made of them and goes by the name of the netlist.
+abbrev pub of_table : Order → Made → Order
+of_table order made = record {
   call = record {
     command = on_table order.call.command;
     aspect = order.call.aspect;
@@ -49,12 +54,8 @@ of_table order = record {
     certificate = order.call.certificate;
   };
   manner = order.manner;
+  made = Some made;
 }
-
--- the table is made of files, and stands in none
-abbrev pub is_made : Command → Bool → Bool
-is_made (OfDesign job source.Table) apart = apart
-is_made command apart = false
 
 -- the first text that is too long is told, of all texts of an order
 abbrev pub IsLongHalt : Order → List Text → Halt → Type 0

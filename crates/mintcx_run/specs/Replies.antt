@@ -18,6 +18,7 @@ use Rattle.mintc_command_answers.specs.declared.command.Command.TheVariants.{OfD
 use Rattle.mintc_command_answers.specs.declared.command.Job.TheVariants.{Check, Optimise, Verify, Report, Safe, Slack}
 use Rattle.mintc_command_answers.specs.declared.command.Job.{Job}
 use Rattle.mintc_command_answers.specs.declared.command.Source.{Source}
+use Rattle.mintc_command_answers.specs.declared.command.Source.TheVariants as source
 use Rattle.mintc_command_answers.specs.declared.status.Status.{Status}
 use Rattle.mintc_command_answers.specs.declared.status.Status.TheVariants.{Done, Found, Refused, Usage, ReadFault}
 use Rattle.mintc_command_answers.specs.declared.status.Status.TheVariants.{OutOfMemory}
@@ -58,7 +59,7 @@ use Rattle.mintcx_words.specs.Misread.{IsReading}
 use Rattle.mintcx_words.specs.declared.words.Misread.{Misread}
 use Rattle.mintcx_words.specs.declared.words.Misread.TheVariants as misread
 use Rattle.mintcx_answers.specs.Answers.{HasAnswer, HasCertificate}
-use Rattle.mintcx_answers.specs.Clocks.{HasClocks}
+use Rattle.mintcx_answers.specs.Clocks.{HasClocks, HasClocksBeside}
 use Rattle.mintcx_answers.specs.declared.clocks.Clocks.{Clocks}
 use Rattle.mintcx_answers.specs.declared.clocks.Clocks.TheVariants as clocks
 use Rattle.mintcx_answers.specs.declared.clocks.Stated.{Stated}
@@ -75,6 +76,7 @@ use Rattle.mintcx_picture.specs.declared.drawn.Drawn.TheVariants as drawn
 use Rattle.mintcx_sdc.specs.declared.text.Titles.{Titles}
 use Rattle.mintcx_frame.specs.declared.view.View.{View}
 use Rattle.mintcx_run.specs.declared.answers.Told.{Told}
+use Rattle.mintcx_run.specs.declared.orders.Made.{Made}
 use Rattle.mintcx_run.specs.declared.orders.Order.{Order}
 use Rattle.mintcx_run.specs.declared.reply.Beside.{Beside}
 use Rattle.mintcx_run.specs.declared.reply.Place.{Place}
@@ -86,7 +88,7 @@ use Rattle.mintcx_apart.specs.declared.apart.Apart.{Apart}
 use Rattle.mintcx_apart.specs.declared.apart.Apart.TheVariants as apart
 use Rattle.mintcx_edges.specs.declared.halt.Halt.{Halt}
 use Rattle.mintcx_edges.specs.declared.halt.Halt.TheVariants as halt
-use Rattle.mintcx_run.specs.Apart.{IsMade, IsUnmade, in_place, of_table}
+use Rattle.mintcx_run.specs.Apart.{IsMade, IsMadeOf, IsUnmade, in_place, of_table}
 use Rattle.mintcx_run.specs.Libraries.{AreGiven, IsUndescribed}
 use Rattle.mintcx_run.specs.Taken.{AreTaken}
 use Rattle.mintcx_run.specs.Warned.{AreAllWarned}
@@ -171,7 +173,7 @@ IsSettingsReply files (Some name) reply = IsSilentIn files name reply ⊎ IsUnre
 abbrev pub IsOrderOf : Request → Order → Type 0
 IsOrderOf (request.Explain topic) order = ⊥
 IsOrderOf (request.OfDesign what files clamp manner) order =
-    (call_for manner.format clamp what files ≡ Ok order.call) × (order.manner ≡ manner)
+    (call_for manner.format clamp what files ≡ Ok order.call) × (order.manner ≡ manner) × (order.made ≡ None)
 
 -- something of a task on a design isn't there yet, and it is said
 abbrev pub IsGapReply : Request → Reply → Type 0
@@ -279,6 +281,16 @@ abbrev pub AreClocks : Stated → Source → List Text → View → Told → Typ
 AreClocks stated from fronts view told = (titles : Titles) × (what : Clocks)
     × HasClocks large stated from titles view fronts what × IsToldOf what told
 
+-- the same of a schedule behind a table that is made of files, whose clock description stands beside
+abbrev pub AreMadeClocks : Made → Stated → List Text → View → Told → Type 0
+AreMadeClocks made stated fronts view told = (titles : Titles) × (what : Clocks)
+    × HasClocksBeside large stated made.clock.text titles view fronts what × IsToldOf what told
+
+-- the clocks of a schedule beside a design, or behind a table that is made
+abbrev pub AreClocksOf : Option Made → Stated → Source → List Text → View → Told → Type 0
+AreClocksOf (Some made) stated source.Table fronts view told = AreMadeClocks made stated fronts view told
+AreClocksOf made stated from fronts view told = AreClocks stated from fronts view told
+
 -- it is told that nothing is drawn
 abbrev pub IsUndrawn : Told → Type 0
 IsUndrawn told = (told.status ≡ Found) × (told.is_message ≡ true) × (told.certificate ≡ None)
@@ -321,9 +333,9 @@ IsTable from fronts told = (what : Tabled) × HasTable large from fronts what ×
 -- an answer for people without a certificate beside it: clocks, a picture, a table, or another one
 abbrev pub IsByAspect : Aspect → Command → Order → List Text → View → Told → Type 0
 IsByAspect aspect.Clocks (OfDesign Check from) order fronts view told =
-    AreClocks stated.Schedule from fronts view told
+    AreClocksOf order.made stated.Schedule from fronts view told
 IsByAspect aspect.Clocks (OfDesign Verify from) order fronts view told =
-    AreClocks stated.Certificate from fronts view told
+    AreClocksOf order.made stated.Certificate from fronts view told
 IsByAspect aspect.Picture (OfDesign job from) order fronts view told =
     IsOfMotif (motif_of job) from order fronts view told
 IsByAspect aspect.Table (OfDesign Optimise from) order fronts view told = IsTable from fronts told
@@ -525,8 +537,8 @@ IsHaltReply files order gate reply = IsMessage Usage reply
 -- the reply where there is one: that to the order, asked of its table in the place of the four files, or a message that
 -- no table can say it
 abbrev pub IsMadeReply : Option Files → Order → List Text → Text → Apart → Reply → Type 0
-IsMadeReply files order taken warnings (apart.Said table) reply =
-    IsTextsReply files (of_table order) (in_place table taken) warnings reply
+IsMadeReply files order taken warnings (apart.Said table) reply = (made : Made) × IsMadeOf taken made
+    × IsTextsReply files (of_table order made) (in_place table taken) warnings reply
 IsMadeReply files order taken warnings (apart.Unsaid obstacle) reply = IsMessage Found reply
 
 -- the reply to an order of the design with edges apart of what is taken of its files
@@ -590,6 +602,7 @@ read_as order fronts = record {
     certificate = order.call.certificate;
   };
   manner = order.manner;
+  made = order.made;
 }
 
 -- The reply to a call of mintc over the files of a shelf: a file can't be read, or the answer in its form, of what is

@@ -3,29 +3,30 @@ ghost use Rattle.std.specs.Prelude.{◌≡◌, ◌<◌, ◌≤◌, true, length,
 ghost use Rattle.mintc_text.specs.Limits.{large};
 ghost use Rattle.mintc_text.specs.Stops.{StopsAt};
 ghost use Rattle.mintc_command_answers.specs.Answers.{IsFirstRefusal, IsOfCommand};
-ghost use Rattle.mintc_command_answers.specs.Commands.{IsNumberInRange, roles_of, source_roles};
+ghost use Rattle.mintc_command_answers.specs.Commands.{IsNumberInRange, roles_of};
 ghost use Rattle.mintc_command_answers.specs.Corners.{IsFirstRefused, corners_of};
 ghost use Rattle.mintcx_answers.specs.Answers.{IsOnFiles};
 ghost use Rattle.mintcx_answers.specs.Clocks.{job_of};
 ghost use Rattle.mintcx_answers.specs.Halts.{HaltsAt};
 ghost use Rattle.mintcx_answers.specs.Pictures.{job_of as job_for};
+ghost use Rattle.mintcx_run.specs.Replies.{AreClocksOf, AreMadeClocks};
 ghost use Rattle.mintcx_run.specs.Replies.{AreClocks, IsAnswered, IsCertified, IsForPeople};
 ghost use Rattle.mintcx_run.specs.Replies.{IsLone, IsPlain, IsRefused, certified_source};
 ghost use Rattle.mintcx_run.specs.Replies.{IsPictured, IsTable, IsToldOf, IsToldPicture, IsToldTable, IsUncertified};
 ghost use Rattle.mintcx_run.specs.Replies.{IsUndrawn, has_one_form, is_own, motif_of};
 
-use crate::orders::Order;
+use crate::orders::{Made, Order};
 use crate::unsaid::{ClockText, clock_among, unsaid_text};
 use mintc_command_answers::{Answer, Command, Job, Source, Status, answer_to};
 use mintc_text::{Bytes, Limits, Name, OutOfMemory, Stop};
 use mintcx_answers::{
     Clocks, Halt, Motif, Pictured, Question, Sketch, Stated, Statement, Tabled, answer_text,
-    certified_text, clocks_text, names_beside, picture_for, subject_of, table_for, titles_of,
+    certified_text, clocks_text, clocks_text_beside, names_beside, picture_for, subject_of,
+    table_for, titles_of,
 };
 use mintcx_frame::View;
 use mintcx_manners::Format;
 use mintcx_picture::Drawn;
-use mintcx_sdc::Titles;
 use mintcx_translation::{Aspect, Call};
 use std::alloc::Global;
 
@@ -133,58 +134,11 @@ fn lone_answer(alloc: Global, order: &Order, view: &View, files: &mut [Bytes]) -
     })
 }
 
-/// What clocks are called after, and the clock description that they are of.
-#[derive(Drop)]
-pub(crate) struct ClockNames {
-    titles: Titles,
-    clock: Option<ClockText>,
-}
-
-/// What clocks are called after, of the files of a design.
-fn clock_names_of(
-    alloc: Global,
-    source: Source,
-    names: &[Name],
-    files: &[Bytes],
-) -> Result<ClockNames, OutOfMemory>
-    requires names { length (source_roles source) < length names.now }
-    requires files { length (source_roles source) ≤ length files.now }
-{
-    Ok(ClockNames {
-        titles: titles_of(alloc, source, names, files)?,
-        clock: clock_among(alloc, source, names, files)?,
-    })
-}
-
-/// What clocks are called after where an order asks for clocks, of what is taken of its files.
-pub(crate) fn clock_names_for(
-    alloc: Global,
-    order: &Order,
-    files: &[Bytes],
-) -> Result<Option<ClockNames>, OutOfMemory>
-    requires count { length files.now ≡ length (roles_of order.now.call.command) }
-    requires names { length order.now.call.files ≡ length (roles_of order.now.call.command) }
-{
-    match (order.call.aspect, order.call.command) {
-        (
-            Aspect::Clocks,
-            Command::OfDesign {
-                job: Job::Check | Job::Verify,
-                source,
-            },
-        ) => {
-            let names = order.call.files.items();
-            Ok(Some(clock_names_of(alloc, source, names, files)?))
-        }
-        _ => Ok(None),
-    }
-}
-
 /// What is told of the clocks of a schedule, with the clock description that they are of.
 fn told_of(
     alloc: Global,
     clocks: Clocks,
-    clock: &Option<ClockText>,
+    clock: Option<&ClockText>,
     view: &View,
 ) -> Result<Told, OutOfMemory>
     ensures value { IfOk result (IsToldOf clocks) }
@@ -217,40 +171,80 @@ fn clocks_answer(
     alloc: Global,
     stated: Stated,
     source: Source,
-    called: &ClockNames,
+    names: &[Name],
     view: &View,
     files: &mut [Bytes],
 ) -> Result<Told, Stop>
     requires count { length files.old ≡ length (roles_of (Command.OfDesign (job_of stated) source)) }
+    requires names { length names.now ≡ length files.old }
     ensures value { IfOk result (AreClocks stated source files.old view.now) }
     ensures of_command { IfOk result (λ told. IsOfCommand told.status) }
     ensures stop { IfErr result
         (StopsAt (IsFirstRefusal large (Command.OfDesign (job_of stated) source) files.old)) }
 {
+    let titles = titles_of(alloc, source, names, files)?;
+    let clock = clock_among(alloc, source, names, files)?;
     let asked = Statement {
         source,
         stated,
-        titles: &called.titles,
+        titles: &titles,
         view,
     };
     let clocks = clocks_text(alloc, &Limits::large(), &asked, files)?;
-    Ok(told_of(alloc, clocks, &called.clock, view)?)
+    Ok(told_of(alloc, clocks, clock.as_ref(), view)?)
 }
 
-/// What clocks are called after: what is known of them, or else by the files.
-fn called_so(
+/// The clocks of a schedule that is stated behind a table that is made of files.
+fn made_clocks(
     alloc: Global,
-    known: Option<ClockNames>,
-    source: Source,
+    stated: Stated,
+    made: &Made,
     names: &[Name],
-    files: &[Bytes],
-) -> Result<ClockNames, OutOfMemory>
-    requires names { length (source_roles source) < length names.now }
-    requires files { length (source_roles source) ≤ length files.now }
+    view: &View,
+    files: &mut [Bytes],
+) -> Result<Told, Stop>
+    requires count { length files.old ≡ length (roles_of (Command.OfDesign (job_of stated) Source.Table)) }
+    requires names { length names.now ≡ length files.old }
+    ensures value { IfOk result (AreMadeClocks made.now stated files.old view.now) }
+    ensures of_command { IfOk result (λ told. IsOfCommand told.status) }
+    ensures stop { IfErr result
+        (StopsAt (IsFirstRefusal large (Command.OfDesign (job_of stated) Source.Table) files.old)) }
 {
-    match known {
-        Some(called) => Ok(called),
-        None => clock_names_of(alloc, source, names, files),
+    let own = titles_of(alloc, Source::Table, names, files)?;
+    let asked = Statement {
+        source: Source::Table,
+        stated,
+        titles: match &made.titles {
+            Some(titles) => titles,
+            None => &own,
+        },
+        view,
+    };
+    let text = made.clock.text.items();
+    let clocks = clocks_text_beside(alloc, &Limits::large(), &asked, text, files)?;
+    Ok(told_of(alloc, clocks, Some(&made.clock), view)?)
+}
+
+/// The clocks of a schedule that is stated in the last file of an order.
+fn stated_clocks(
+    alloc: Global,
+    order: &Order,
+    stated: Stated,
+    source: Source,
+    view: &View,
+    files: &mut [Bytes],
+) -> Result<Told, Stop>
+    requires count { length files.old ≡ length (roles_of (Command.OfDesign (job_of stated) source)) }
+    requires names { length order.now.call.files ≡ length files.old }
+    ensures value { IfOk result (AreClocksOf order.now.made stated source files.old view.now) }
+    ensures of_command { IfOk result (λ told. IsOfCommand told.status) }
+    ensures stop { IfErr result
+        (StopsAt (IsFirstRefusal large (Command.OfDesign (job_of stated) source) files.old)) }
+{
+    let names = order.call.files.items();
+    match (&order.made, source) {
+        (Some(made), Source::Table) => made_clocks(alloc, stated, made, names, view, files),
+        _ => clocks_answer(alloc, stated, source, names, view, files),
     }
 }
 
@@ -379,7 +373,6 @@ fn table_answer(alloc: Global, source: Source, files: &mut [Bytes]) -> Result<To
 fn uncertified_answer(
     alloc: Global,
     order: &Order,
-    known: Option<ClockNames>,
     view: &View,
     files: &mut [Bytes],
 ) -> Result<Told, Halt>
@@ -400,20 +393,14 @@ fn uncertified_answer(
                 job: Job::Check,
                 source,
             },
-        ) => {
-            let called = called_so(alloc, known, source, names, files)?;
-            Ok(clocks_answer(alloc, Stated::Schedule, source, &called, view, files)?)
-        }
+        ) => Ok(stated_clocks(alloc, order, Stated::Schedule, source, view, files)?),
         (
             Aspect::Clocks,
             Command::OfDesign {
                 job: Job::Verify,
                 source,
             },
-        ) => {
-            let called = called_so(alloc, known, source, names, files)?;
-            Ok(clocks_answer(alloc, Stated::Certificate, source, &called, view, files)?)
-        }
+        ) => Ok(stated_clocks(alloc, order, Stated::Certificate, source, view, files)?),
         (
             Aspect::Table,
             Command::OfDesign {
@@ -430,12 +417,7 @@ fn uncertified_answer(
 }
 
 /// The answer to a call for people.
-fn people_answer(
-    alloc: Global,
-    order: &Order,
-    known: Option<ClockNames>,
-    files: &mut [Bytes],
-) -> Result<Told, Halt>
+fn people_answer(alloc: Global, order: &Order, files: &mut [Bytes]) -> Result<Told, Halt>
     requires count { length files.old ≡ length (roles_of order.now.call.command) }
     requires names { length order.now.call.files ≡ length (roles_of order.now.call.command) }
     requires in_range { IsNumberInRange order.now.call.command }
@@ -447,7 +429,7 @@ fn people_answer(
     let view = view_of(alloc, order, files)?;
     match certified_source(&order.call) {
         Some(source) => Ok(certified_answer(alloc, source, &view, files)?),
-        None => uncertified_answer(alloc, order, known, &view, files),
+        None => uncertified_answer(alloc, order, &view, files),
     }
 }
 
@@ -468,14 +450,8 @@ fn is_own(order: &Order) -> bool
     matches!(order.manner.format, Format::Plain) && !has_one_form(order.call.aspect)
 }
 
-/// The answer to a call in its form, of the texts that are given; `known` is what clocks are called after, where that is
-/// not by these texts.
-pub(crate) fn answer_of(
-    alloc: Global,
-    order: &Order,
-    known: Option<ClockNames>,
-    files: &mut [Bytes],
-) -> Result<Told, Halt>
+/// The answer to a call in its form, of the texts that are given.
+pub(crate) fn answer_of(alloc: Global, order: &Order, files: &mut [Bytes]) -> Result<Told, Halt>
     requires count { length files.old ≡ length (roles_of order.now.call.command) }
     requires names { length order.now.call.files ≡ length (roles_of order.now.call.command) }
     requires in_range { IsNumberInRange order.now.call.command }
@@ -488,6 +464,6 @@ pub(crate) fn answer_of(
     if is_own(order) {
         Ok(plain_answer(alloc, order, files)?)
     } else {
-        people_answer(alloc, order, known, files)
+        people_answer(alloc, order, files)
     }
 }

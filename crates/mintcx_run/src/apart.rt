@@ -3,14 +3,17 @@ ghost use Rattle.std.specs.Prelude.{◌≡◌, ◌≤◌, ◌+◌, true, length,
 ghost use Rattle.mintc_command_answers.specs.Commands.{IsNumberInRange, roles_of};
 ghost use Rattle.mintcx_answers.specs.Answers.{IsOnFiles};
 ghost use Rattle.mintcx_translation.specs.Calls.{takes_four};
-ghost use Rattle.mintcx_run.specs.Apart.{IsMade, IsUnmade, in_place, is_of_library, lone, of_table};
+ghost use Rattle.mintcx_run.specs.Apart.{IsMade, IsMadeOf, IsUnmade, in_place, is_of_library, lone, of_table};
 ghost use Rattle.mintcx_run.specs.Apart.{on_table};
 
-use crate::orders::Order;
-use mintc_command_answers::{Command, Source, too_long};
-use mintc_text::{Bytes, Limits, Names};
+use crate::orders::{Made, Order};
+use crate::unsaid::clock_text;
+use mintc_command_answers::{Command, Job, Source, too_long};
+use mintc_text::{Bytes, Limits, Names, OutOfMemory};
+use mintcx_answers::titles_of;
 use mintcx_apart::{Apart, Halt, table_apart};
-use mintcx_translation::Call;
+use mintcx_sdc::Titles;
+use mintcx_translation::{Aspect, Call};
 use std::alloc::Global;
 
 /// Whether the cells of a command are those of a library, which may be described for it.
@@ -79,11 +82,45 @@ fn on_table(command: Command) -> Command
     }
 }
 
-/// An order of four files, asked of a table in their place, which goes by the name of the netlist.
-pub(crate) fn of_table(order: Order) -> Order
+/// How the clocks of a schedule are called, where an order asks for such, of what is taken of its files.
+fn titles_for(alloc: Global, order: &Order, files: &[Bytes]) -> Result<Option<Titles>, OutOfMemory>
+    requires count { length files.now ≡ length (roles_of order.now.call.command) }
+    requires names { length order.now.call.files ≡ length (roles_of order.now.call.command) }
+{
+    match (order.call.aspect, order.call.command) {
+        (
+            Aspect::Clocks,
+            Command::OfDesign {
+                job: Job::Check | Job::Verify,
+                source,
+            },
+        ) => {
+            let names = order.call.files.items();
+            Ok(Some(titles_of(alloc, source, names, files)?))
+        }
+        _ => Ok(None),
+    }
+}
+
+/// What a table is made of, of an order and of what is taken of its files.
+pub(crate) fn made_of(alloc: Global, order: &Order, files: &[Bytes]) -> Result<Made, OutOfMemory>
+    requires count { length files.now ≡ length (roles_of order.now.call.command) }
+    requires names { length order.now.call.files ≡ length (roles_of order.now.call.command) }
+    requires four { takes_four order.now.call.command ≡ true }
+    ensures { IfOk result (IsMadeOf files.now) }
+{
+    let names = order.call.files.items();
+    Ok(Made {
+        titles: titles_for(alloc, order, files)?,
+        clock: clock_text(alloc, &names[3], files[3].items())?,
+    })
+}
+
+/// An order of four files, asked of a table in their place, which is made of them and goes by the name of the netlist.
+pub(crate) fn of_table(order: Order, made: Made) -> Order
     requires count { length order.call.files ≡ length (roles_of order.call.command) }
     requires four { takes_four order.call.command ≡ true }
-    ensures value { result ≡ of_table order }
+    ensures value { result ≡ of_table order made }
     ensures names { length result.call.files ≡ length (roles_of result.call.command) }
     ensures count { length (roles_of result.call.command) + 3 ≡ length (roles_of order.call.command) }
     ensures in_range { IsNumberInRange order.call.command → IsNumberInRange result.call.command }
@@ -103,5 +140,6 @@ pub(crate) fn of_table(order: Order) -> Order
             certificate: order.call.certificate,
         },
         manner: order.manner,
+        made: Some(made),
     }
 }

@@ -13,8 +13,8 @@ ghost use Rattle.mintcx_run.specs.Replies.{IsOutOfMemory, IsPlaced, IsReply, IsT
 ghost use Rattle.mintcx_run.specs.Replies.{command_as, has_schedule, place_of, read_as, takes_schedules, told_place};
 ghost use Rattle.mintcx_run.specs.Warned.{AreAllWarned, AreClampsTold};
 
-use crate::answers::{ClockNames, Told, answer_of, clock_names_for};
-use crate::apart::{in_place, make_apart, of_table};
+use crate::answers::{Told, answer_of};
+use crate::apart::{in_place, made_of, make_apart, of_table};
 use crate::libraries::{describe, restored};
 use crate::orders::{Order, order_for};
 use crate::projects::given_of;
@@ -132,15 +132,14 @@ fn read_as(order: Order, files: &[Bytes]) -> Order
             ..order.call
         },
         manner: order.manner,
+        made: order.made,
     }
 }
 
-/// The reply to an order of the texts that are given, with these warnings; `known` is what clocks are called after, where
-/// that is not by these texts.
+/// The reply to an order of the texts that are given, with these warnings.
 fn texts_reply<S: Shelf>(
     alloc: Global,
     order: Order,
-    known: Option<ClockNames>,
     mut files: Vec<Bytes>,
     warnings: Bytes,
     shelf: &mut S,
@@ -156,7 +155,7 @@ fn texts_reply<S: Shelf>(
     ensures later { S.faults shelf.old ≤ S.faults shelf.new }
     ensures reads { MakesAtMost 2 (S.calls shelf.old) (S.calls shelf.new) }
 {
-    match answer_of(alloc, &order, known, files.as_mut_slice()) {
+    match answer_of(alloc, &order, files.as_mut_slice()) {
         Ok(told) => placed(order, told, warnings),
         Err(Halt::Refused(refusal)) => refused(alloc, &order, &refusal, shelf),
         Err(Halt::Corner { corner, own }) => refused_corner(alloc, &order, corner, &own, shelf),
@@ -186,10 +185,10 @@ fn made_reply<S: Shelf>(
     ensures reads { MakesAtMost 2 (S.calls shelf.old) (S.calls shelf.new) }
 {
     match told {
-        Apart::Said(table) => match clock_names_for(alloc, &order, files.as_slice()) {
-            Ok(known) => {
+        Apart::Said(table) => match made_of(alloc, &order, files.as_slice()) {
+            Ok(made) => {
                 let texts = in_place(table, files);
-                texts_reply(alloc, of_table(order), known, texts, warnings, shelf)
+                texts_reply(alloc, of_table(order, made), texts, warnings, shelf)
             }
             Err(_) => Reply::out_of_memory(alloc),
         },
@@ -290,7 +289,7 @@ fn design_reply<S: Shelf>(
         let taken = restored(files, at, library);
         apart_reply(alloc, order, taken, warnings, shelf)
     } else {
-        texts_reply(alloc, order, None, files, warnings, shelf)
+        texts_reply(alloc, order, files, warnings, shelf)
     }
 }
 

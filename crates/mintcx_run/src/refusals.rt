@@ -3,7 +3,6 @@ ghost use Rattle.std.specs.Prelude.{◌≡◌, ◌≢◌, ◌<◌, ◌≤◌, �
 ghost use Rattle.mintc_text.specs.Outside.{IsFront, Rose};
 ghost use Rattle.mintc_command.specs.Answers.{MakesAtMost};
 ghost use Rattle.mintc_command_answers.specs.Commands.{IsNumberInRange, roles_of};
-ghost use Rattle.mintcx_run.specs.Apart.{is_made};
 ghost use Rattle.mintcx_run.specs.Replies.{IsCornerReply, IsCornerText, IsMessage, IsRefusalReply, IsRefusalText};
 ghost use Rattle.mintcx_run.specs.Replies.{IsRefusedFile, IsSaidReply, IsTextOfCorner, IsTextOfRefusal};
 ghost use Rattle.mintcx_run.specs.Replies.{is_object, refusal_place};
@@ -12,7 +11,7 @@ use crate::objects::{corner_object, refusal_object};
 use crate::orders::Order;
 use crate::reading::{read_file, shown};
 use crate::reply::{Place, Reply};
-use mintc_command_answers::{Command, Source, Status};
+use mintc_command_answers::Status;
 use mintc_text::limits::MOST_BYTES;
 use mintc_text::{Bytes, OutOfMemory, Refusal, Shelf};
 use mintcx_manners::{Detail, Format};
@@ -20,19 +19,6 @@ use mintcx_refusals::{
     Inputs, beside_of, corner_message, file_of, refusal_message, short_message, teller,
 };
 use std::alloc::Global;
-
-/// Whether an order is asked of a table that is made of files, and stands in none.
-fn is_made(order: &Order) -> bool
-    ensures { result ≡ is_made order.now.call.command order.now.call.apart }
-{
-    match order.call.command {
-        Command::OfDesign {
-            source: Source::Table,
-            ..
-        } => order.call.apart,
-        _ => false,
-    }
-}
 
 /// The first bytes of a file of an order, by its number; none of a table that is made of files, or where that file can't
 /// be read any more.
@@ -44,7 +30,7 @@ fn file_again<S: Shelf>(alloc: Global, order: &Order, at: usize, shelf: &mut S) 
     ensures later { S.faults shelf.old ≤ S.faults shelf.new }
     ensures reads { MakesAtMost 1 (S.calls shelf.old) (S.calls shelf.new) }
 {
-    if at > 0 || !is_made(order) {
+    if at > 0 || order.made.is_none() {
         if let Ok(file) = read_file(alloc, shelf, &order.call.files.items()[at]) {
             return file;
         }
