@@ -118,8 +118,8 @@ pub taken_unfit : (files : Option Files) (order : Order) (fronts taken : List Te
 taken_unfit files order fronts taken why reply un h = inr (inl (why, un, h))
 
 -- a library back in its place
-pub put_back : (taken : List Text) (at : ℕ) (text library : Text) → at < length taken → library ≡ file_at taken at → set (set taken at text) at library ≡ taken
-put_back taken at text library within is = set-set taken at text library ∙ ap (λ (l : Text). set taken at l) is ∙ set-get_or taken at []
+pub put_back : (taken : List Text) (at : ℕ) (text library : Text) → library ≡ file_at taken at → set (set taken at text) at library ≡ taken
+put_back taken at text library is = set-set taken at text library ∙ ap (λ (l : Text). set taken at l) is ∙ set-get_or taken at []
 
 -- what is told of delays below 0 doesn't change as the files are read
 pub clamps_as_read : (order as_read : Order) (fronts taken : List Text) (text : Text) → as_read ≡ read_as order taken → AreClampsTold order fronts text → AreClampsTold as_read fronts text

@@ -30,6 +30,7 @@ fn is_of_library(command: Command, described: bool) -> bool
 }
 
 /// What is told of the design with edges apart of what is taken of the files of an order, or why there is none.
+#[tactic(auto, using(crate::proofs::ApartLaws::four_roles))]
 pub(crate) fn make_apart(alloc: Global, order: &Order, files: &[Bytes]) -> Result<Apart, Halt>
     requires count { length files.now ≡ length (roles_of order.now.call.command) }
     requires in_range { IsNumberInRange order.now.call.command }
@@ -46,6 +47,7 @@ pub(crate) fn make_apart(alloc: Global, order: &Order, files: &[Bytes]) -> Resul
 }
 
 /// The first of four items, and those behind them.
+#[tactic(auto, using(crate::proofs::ApartLaws::lone_is))]
 fn lone<T: Drop>(mut items: Vec<T>) -> Vec<T>
     requires { 4 ≤ length items.items }
     ensures { result.items ≡ lone items.items }
@@ -57,6 +59,7 @@ fn lone<T: Drop>(mut items: Vec<T>) -> Vec<T>
 }
 
 /// Texts, with one in the place of the first four.
+#[tactic(auto, using(crate::proofs::ApartLaws::first_put))]
 pub(crate) fn in_place(text: Bytes, texts: Vec<Bytes>) -> Vec<Bytes>
     requires { 4 ≤ length texts.items }
     ensures { result.items ≡ in_place text texts.items }
@@ -67,6 +70,7 @@ pub(crate) fn in_place(text: Bytes, texts: Vec<Bytes>) -> Vec<Bytes>
 }
 
 /// A command, asked of a table.
+#[tactic(auto, using(crate::proofs::ApartLaws::table_roles))]
 fn on_table(command: Command) -> Command
     ensures value { result ≡ on_table command }
     ensures in_range { IsNumberInRange command → IsNumberInRange result }
@@ -103,6 +107,7 @@ fn titles_for(alloc: Global, order: &Order, files: &[Bytes]) -> Result<Option<Ti
 }
 
 /// What a table is made of, of an order and of what is taken of its files.
+#[tactic(auto, using(crate::proofs::ApartLaws::four_roles))]
 pub(crate) fn made_of(alloc: Global, order: &Order, files: &[Bytes]) -> Result<Made, OutOfMemory>
     requires count { length files.now ≡ length (roles_of order.now.call.command) }
     requires names { length order.now.call.files ≡ length (roles_of order.now.call.command) }
@@ -117,6 +122,7 @@ pub(crate) fn made_of(alloc: Global, order: &Order, files: &[Bytes]) -> Result<M
 }
 
 /// An order of four files, asked of a table in their place, which is made of them and goes by the name of the netlist.
+#[tactic(auto, using(crate::proofs::ApartLaws::lone_length, crate::proofs::ApartLaws::four_roles))]
 pub(crate) fn of_table(order: Order, made: Made) -> Order
     requires count { length order.call.files ≡ length (roles_of order.call.command) }
     requires four { takes_four order.call.command ≡ true }

@@ -101,6 +101,7 @@ fn command_as(aspect: Aspect, command: Command, files: &[Bytes]) -> Command
     ensures count { length (roles_of result) ≡ length (roles_of command) }
     ensures in_range { IsNumberInRange command → IsNumberInRange result }
     ensures on_files { IsOnFiles command → IsOnFiles result }
+    ensures four { takes_four result ≡ takes_four command }
 {
     match command {
         Command::OfDesign {
@@ -124,6 +125,7 @@ fn read_as(order: Order, files: &[Bytes]) -> Order
     ensures count { length (roles_of result.call.command) ≡ length (roles_of order.call.command) }
     ensures in_range { IsNumberInRange order.call.command → IsNumberInRange result.call.command }
     ensures on_files { IsOnFiles order.call.command → IsOnFiles result.call.command }
+    ensures four { takes_four result.call.command ≡ takes_four order.call.command }
 {
     let command = command_as(order.call.aspect, order.call.command, files);
     Order {

@@ -19,7 +19,7 @@ returns-in-Ok-clause-reply g c fronts clamps =
     let described = rw (c.items.ensures, c.as_mut_slice.ensures.value, c.cells_place-at.ensures) at c.in-Ok.ensures.value in
     let put = subst (λ (fs : List Text). AreDescribed at order.call.gates taken fs) (sym is) described in
     let library = rw (c.as_mut_slice.ensures.value, c.cells_place-at.ensures) at c.in-Ok.ensures.library in
-    let back = ap (λ (fs : List Text). restored fs at (Some c.in-Ok.library)) (is ∙ described.2) ∙ put_back taken at described.0 c.in-Ok.library c.requires.library library in
+    let back = ap (λ (fs : List Text). restored fs at (Some c.in-Ok.library)) (is ∙ described.2) ∙ put_back taken at described.0 c.in-Ok.library library in
     let told = subst (λ (fs : List Text). IsOutOfMemory c.design_reply.result ⊎ IsWarnedReply _ order fronts fs given.items c.design_reply.result) back (c.design_reply.ensures.reply fronts clamps) in
     taken_given _ order fronts taken given.items c.design_reply.result (inr (c.requires.described, put)) told
 
