@@ -301,17 +301,21 @@ fn clock_of(alloc: Global, system: &System, read: Option<Clock>) -> Result<Clock
 }
 
 /// The command that reads a design and the text beside it.
-fn command_of(asked: &Statement<'_>) -> Command
-    ensures { result ≡ command_of asked.now.stated asked.now.source }
+fn command_on(stated: Stated, source: Source) -> Command
+    ensures { result ≡ command_of stated source }
 {
-    let job = match asked.stated {
+    let job = match stated {
         Stated::Schedule => Job::Check,
         Stated::Certificate => Job::Verify,
     };
-    Command::OfDesign {
-        job,
-        source: asked.source,
-    }
+    Command::OfDesign { job, source }
+}
+
+/// The command that reads the design of a statement, and the text beside it.
+fn command_of(asked: &Statement<'_>) -> Command
+    ensures { result ≡ command_of asked.now.stated asked.now.source }
+{
+    command_on(asked.stated, asked.source)
 }
 
 /// The clocks of the schedule of a text beside a design's, none of them too long, or their first refusal.
@@ -391,6 +395,7 @@ fn of_phases(count: u32, read: Option<Clock>) -> Option<Clock>
 }
 
 /// The clock of a description beside a table, or that of the table, by the names of its phases.
+#[tactic(auto, using(crate::proofs::ClockLaws::beside_fits))]
 fn clock_beside(alloc: Global, system: &System, text: &[u8]) -> Result<Clock, OutOfMemory>
     ensures value { IfOk result (IsClockBeside text.now system.now) }
     ensures limits { IfOk result KeepsLimits }
@@ -398,10 +403,8 @@ fn clock_beside(alloc: Global, system: &System, text: &[u8]) -> Result<Clock, Ou
 {
     clocks_keep_limits();
     let read = read_beside(alloc, text)?;
-    match of_phases(system.flat().phase_count(), read) {
-        Some(clock) => Ok(clock),
-        None => clock_by_names(alloc, system.flat()),
-    }
+    let fitting = of_phases(system.flat().phase_count(), read);
+    clock_of(alloc, system, fitting)
 }
 
 /// The clocks of the schedule of a text behind a table, none of them too long, with the clock description beside it; or
@@ -446,14 +449,7 @@ pub fn clocks_text_beside(
         asked.now.view.now files.old) }
     ensures stop { IfErr result (StopsAt (IsFirstRefusal limits.now (command_of asked.now.stated Source.Table) files.old)) }
 {
-    let job = match asked.stated {
-        Stated::Schedule => Job::Check,
-        Stated::Certificate => Job::Verify,
-    };
-    let command = Command::OfDesign {
-        job,
-        source: Source::Table,
-    };
+    let command = command_on(asked.stated, Source::Table);
     if let Some(refusal) = too_long(limits, command.roles(), files) {
         return Err(Stop::Refused(refusal));
     }

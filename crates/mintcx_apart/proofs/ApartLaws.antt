@@ -10,8 +10,8 @@ use Rattle.mintcx_edges.specs.Halts.{halt_of}
 use Rattle.mintcx_apart.specs.Apart.{IsFilesHalt}
 
 -- what holds of four texts holds of equal ones
-pub of_four : {P : List ℕ → List ℕ → List ℕ → List ℕ → Type 0} (v d c k w e f l : List ℕ) → v ≡ w → d ≡ e → c ≡ f → k ≡ l → P v d c k → P w e f l
-of_four {P} v d c k w e f l a b g h p =
+pub of_four : (P : List ℕ → List ℕ → List ℕ → List ℕ → Type 0) (v d c k w e f l : List ℕ) → v ≡ w → d ≡ e → c ≡ f → k ≡ l → P v d c k → P w e f l
+of_four P v d c k w e f l a b g h p =
     subst (λ (x : List ℕ). P x e f l) a (subst (λ (x : List ℕ). P v x f l) b (subst (λ (x : List ℕ). P v d x l) g (subst (λ (x : List ℕ). P v d c x) h p)))
 
 -- what stops the design of a description halts it

@@ -54,9 +54,9 @@ three_less job.Slack = refl
 pub table_roles : (command : Command) → takes_four command ≡ true → length (roles_of (on_table command)) + 3 ≡ length (roles_of command)
 table_roles (OfDesign work source.Files) four = three_fewer work
 table_roles (OfDesign work source.Liberty) four = three_less work
-table_roles (OfDesign work source.Table) four = absurd four
-table_roles (Sample number) four = absurd four
-table_roles (Corners count) four = absurd four
+table_roles (OfDesign work source.Table) four = absurd (cc four)
+table_roles (Sample number) four = absurd (cc four)
+table_roles (Corners count) four = absurd (cc four)
 
 some_role : (work : Job) → 1 ≤ length (roles_of (OfDesign work source.Table))
 some_role job.Check = omega arith
@@ -69,6 +69,6 @@ some_role job.Slack = omega arith
 pub four_roles : (command : Command) → takes_four command ≡ true → 4 ≤ length (roles_of command)
 four_roles (OfDesign work source.Files) four = let more = three_fewer work in let some = some_role work in omega (arith, more, some)
 four_roles (OfDesign work source.Liberty) four = let more = three_less work in let some = some_role work in omega (arith, more, some)
-four_roles (OfDesign work source.Table) four = absurd four
-four_roles (Sample number) four = absurd four
-four_roles (Corners count) four = absurd four
+four_roles (OfDesign work source.Table) four = absurd (cc four)
+four_roles (Sample number) four = absurd (cc four)
+four_roles (Corners count) four = absurd (cc four)
