@@ -288,8 +288,10 @@ AreMadeClocks made stated fronts view told = (titles : Titles) × (what : Clocks
 
 -- the clocks of a schedule beside a design, or behind a table that is made
 abbrev pub AreClocksOf : Option Made → Stated → Source → List Text → View → Told → Type 0
+AreClocksOf made stated source.Files fronts view told = AreClocks stated source.Files fronts view told
+AreClocksOf made stated source.Liberty fronts view told = AreClocks stated source.Liberty fronts view told
 AreClocksOf (Some made) stated source.Table fronts view told = AreMadeClocks made stated fronts view told
-AreClocksOf made stated from fronts view told = AreClocks stated from fronts view told
+AreClocksOf None stated source.Table fronts view told = AreClocks stated source.Table fronts view told
 
 -- it is told that nothing is drawn
 abbrev pub IsUndrawn : Told → Type 0

@@ -242,9 +242,13 @@ fn stated_clocks(
         (StopsAt (IsFirstRefusal large (Command.OfDesign (job_of stated) source) files.old)) }
 {
     let names = order.call.files.items();
-    match (&order.made, source) {
-        (Some(made), Source::Table) => made_clocks(alloc, stated, made, names, view, files),
-        _ => clocks_answer(alloc, stated, source, names, view, files),
+    match source {
+        Source::Table => match &order.made {
+            Some(made) => made_clocks(alloc, stated, made, names, view, files),
+            None => clocks_answer(alloc, stated, Source::Table, names, view, files),
+        },
+        Source::Files => clocks_answer(alloc, stated, Source::Files, names, view, files),
+        Source::Liberty => clocks_answer(alloc, stated, Source::Liberty, names, view, files),
     }
 }
 
