@@ -61,7 +61,10 @@ fn view_of(alloc: Global, order: &Order, files: &[Bytes]) -> Result<View, OutOfM
     ensures unit { IfOk result (λ view. view.unit ≡ order.now.manner.unit) }
     ensures limit { IfOk result (λ view. view.limit ≡ order.now.manner.limit) }
 {
-    let subject = subject_of(alloc, order.call.command, order.call.files.items(), files)?;
+    let subject = match &order.made {
+        Some(made) => Name::new(alloc, made.subject.bytes())?,
+        None => subject_of(alloc, order.call.command, order.call.files.items(), files)?,
+    };
     Ok(View {
         subject,
         unit: order.manner.unit,

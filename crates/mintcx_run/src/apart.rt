@@ -10,7 +10,7 @@ use crate::orders::{Made, Order};
 use crate::unsaid::clock_text;
 use mintc_command_answers::{Command, Job, Source, too_long};
 use mintc_text::{Bytes, Limits, Names, OutOfMemory};
-use mintcx_answers::titles_of;
+use mintcx_answers::{subject_of, titles_of};
 use mintcx_apart::{Apart, Halt, table_apart};
 use mintcx_sdc::Titles;
 use mintcx_translation::{Aspect, Call};
@@ -116,6 +116,7 @@ pub(crate) fn made_of(alloc: Global, order: &Order, files: &[Bytes]) -> Result<M
 {
     let names = order.call.files.items();
     Ok(Made {
+        subject: subject_of(alloc, order.call.command, names, files)?,
         titles: titles_for(alloc, order, files)?,
         clock: clock_text(alloc, &names[3], files[3].items())?,
     })

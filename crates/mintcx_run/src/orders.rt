@@ -22,10 +22,11 @@ use mintcx_sdc::Titles;
 use mintcx_translation::{Call, NoCall, call_of};
 use std::alloc::Global;
 
-/// What a table is made of: how the clocks of a schedule beside it are called, where such are asked for, and the clock
-/// description of its files.
+/// What a table is made of: what its answer is about, how the clocks of a schedule beside it are called, where such are
+/// asked for, and the clock description of its files.
 #[derive(Drop)]
 pub(crate) struct Made {
+    pub(crate) subject: Name,
     pub(crate) titles: Option<Titles>,
     pub(crate) clock: ClockText,
 }
