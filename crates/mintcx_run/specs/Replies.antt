@@ -387,10 +387,14 @@ IsRefused order fronts refused = (is_own order ≡ false) × IsFirstRefusal larg
 
 -- ---- refusals, as they are told
 
+-- the file of a number, counted from 0, is one: a table that is made is the first, and stands in none
+abbrev pub IsStanding : Order → ℕ → Type 0
+IsStanding order n = (order.made ≡ None) ⊎ (0 < n)
+
 -- The first bytes of the file that a refusal speaks of, one more than a file may have; or none.
 abbrev pub IsRefusedFile : Option Files → Order → Refusal → Text → Type 0
 IsRefusedFile files order refused file = (file ≡ []) ⊎ ((n : ℕ) × IsFile (roles_of order.call.command) refused n
-    × IsFront files (slice_index_or order.call.files n []) (MOST_BYTES + 1) file)
+    × IsStanding order n × IsFront files (slice_index_or order.call.files n []) (MOST_BYTES + 1) file)
 
 -- the answer is an object, and so is a refusal
 abbrev pub is_object : Format → Bool

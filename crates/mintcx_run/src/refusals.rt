@@ -5,7 +5,7 @@ ghost use Rattle.mintc_command.specs.Answers.{MakesAtMost};
 ghost use Rattle.mintc_command_answers.specs.Commands.{IsNumberInRange, roles_of};
 ghost use Rattle.mintcx_run.specs.Replies.{IsCornerReply, IsCornerText, IsMessage, IsRefusalReply, IsRefusalText};
 ghost use Rattle.mintcx_run.specs.Replies.{IsRefusedFile, IsSaidReply, IsTextOfCorner, IsTextOfRefusal};
-ghost use Rattle.mintcx_run.specs.Replies.{is_object, refusal_place};
+ghost use Rattle.mintcx_run.specs.Replies.{IsStanding, is_object, refusal_place};
 
 use crate::objects::{corner_object, refusal_object};
 use crate::orders::Order;
@@ -24,8 +24,8 @@ use std::alloc::Global;
 /// be read any more.
 fn file_again<S: Shelf>(alloc: Global, order: &Order, at: usize, shelf: &mut S) -> Bytes
     requires { at < length order.now.call.files }
-    ensures file { (result ≡ []) ⊎ IsFront (S.files shelf.old) (slice_index_or order.now.call.files at [])
-        (MOST_BYTES + 1) result }
+    ensures file { (result ≡ []) ⊎ (IsStanding order.now at
+        × IsFront (S.files shelf.old) (slice_index_or order.now.call.files at []) (MOST_BYTES + 1) result) }
     ensures same { S.files shelf.new ≡ S.files shelf.old }
     ensures later { S.faults shelf.old ≤ S.faults shelf.new }
     ensures reads { MakesAtMost 1 (S.calls shelf.old) (S.calls shelf.new) }
