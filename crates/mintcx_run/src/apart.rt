@@ -133,18 +133,27 @@ pub(crate) fn of_table(order: Order, made: Made) -> Order
     ensures in_range { IsNumberInRange order.call.command → IsNumberInRange result.call.command }
     ensures on_files { IsOnFiles order.call.command → IsOnFiles result.call.command }
 {
-    let command = on_table(order.call.command);
-    let files = Names::new(lone(order.call.files.into_vec()));
+    let Call {
+        command,
+        aspect,
+        of_library: _,
+        gates,
+        clamp,
+        apart,
+        files,
+        certificate,
+    } = order.call;
+    let files = lone(files.into_vec());
     Order {
         call: Call {
-            command,
-            aspect: order.call.aspect,
+            command: on_table(command),
+            aspect,
             of_library: false,
-            gates: order.call.gates,
-            clamp: order.call.clamp,
-            apart: order.call.apart,
-            files,
-            certificate: order.call.certificate,
+            gates,
+            clamp,
+            apart,
+            files: Names::new(files),
+            certificate,
         },
         manner: order.manner,
         made: Some(made),
