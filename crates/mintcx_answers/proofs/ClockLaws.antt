@@ -1,5 +1,6 @@
 -- The clock of a design, and the clocks of a schedule.
-use Rattle.std.proofs.Common.{◌≡◌, ◌∙◌, ℕ, ℤ, List, length, map, Option, Some, None, Result, Ok, Err, IfErr, ap, sym, subst}
+use Rattle.std.proofs.Common.{◌≡◌, ◌∙◌, ◌==◌, ℕ, ℤ, Bool, true, false, cond, List, length, map, Option, Some, None, Result, Ok, Err, IfErr, inl, inr, refl, ap, sym, subst}
+use Rattle.std.proofs.lemmas.Bool.{eqb-true}
 use Rattle.std.proofs.lemmas.List.{length-map}
 use Rattle.mintc_text.specs.declared.limits.Most.{Most}
 use Rattle.mintc_text.specs.declared.refusals.Refusal.{Refusal}
@@ -30,7 +31,7 @@ use Rattle.mintcx_frame.specs.declared.view.View.{View}
 use Rattle.mintcx_sdc.specs.Named.{named_clock, named_phase}
 use Rattle.mintcx_sdc.specs.declared.text.Titles.{Titles}
 use Rattle.mintcx_answers.specs.declared.clocks.Clocks.{Clocks}
-use Rattle.mintcx_answers.specs.Clocks.{IsByVerdict, IsChosen, IsClockIn, IsClockOf, IsOfCertificate, IsOfLeast, IsReadIn}
+use Rattle.mintcx_answers.specs.Clocks.{IsByVerdict, IsChosen, IsClockIn, IsClockOf, IsOfCertificate, IsOfLeast, IsReadBeside, IsReadIn, of_phases}
 
 -- ---- the clock
 
@@ -90,3 +91,22 @@ pub clocks_stopped : {A : Type 0} (most : Most) (r : Result A Stop) (job : Job) 
 clocks_stopped most (Ok a) job source texts short h = tt
 clocks_stopped most (Err (stop.Refused refused)) job source texts short h = of_contents short h
 clocks_stopped most (Err stop.OutOfMemory) job source texts short h = tt
+
+-- ---- a clock description beside a table
+
+-- the clock that was read, where it has as many phases as the table, or that of the names of the table's phases
+module _ (t : Timing) (clock : Clock) where
+  by_names : (clock ≡ named_clock t.flat.phases) → length clock.phases ≡ phase_count t.flat
+  by_names own = ap (λ (x : Clock). length x.phases) own ∙ length-map t.flat.phases named_phase
+
+  by_count : (own : Clock) (b : Bool) → (length own.phases == phase_count t.flat) ≡ b → KeepsLimits own → IsChosen t (cond b (Some own) None) clock →
+      ((cond b (Some own) None) ≡ None → KeepsLimits clock) → KeepsLimits clock × (length clock.phases ≡ phase_count t.flat)
+  by_count own true is keeps chosen limits =
+      (subst KeepsLimits (sym chosen) keeps, ap (λ (x : Clock). length x.phases) chosen ∙ eqb-true (length own.phases) (phase_count t.flat) is)
+  by_count own false is keeps chosen limits = (limits refl, by_names chosen)
+
+  pub beside_fits : (text : List ℕ) (read : Option Clock) → ClocksKeepLimits → IsReadBeside text read → IsChosen t (of_phases (phase_count t.flat) read) clock →
+      (of_phases (phase_count t.flat) read ≡ None → KeepsLimits clock) → KeepsLimits clock × (length clock.phases ≡ phase_count t.flat)
+  beside_fits text None keep is chosen limits = (limits refl, by_names chosen)
+  beside_fits text (Some own) keep (inl is) chosen limits = by_count own (length own.phases == phase_count t.flat) refl (keep text own is) chosen limits
+  beside_fits text (Some own) keep (inr long) chosen limits = absurd (cc long.1)

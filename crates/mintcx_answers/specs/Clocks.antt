@@ -1,9 +1,10 @@
 -- The clocks of a schedule as SDC, of the bytes of its files.
 use Rattle.std.specs.Prelude.{◌≡◌, ◌≢◌, ◌⊎◌, ℕ, ◌<◌, ◌^◌, ℤ, pos, List, All, Bool, true, false}
-use Rattle.std.specs.Prelude.{Option, Some, None}
+use Rattle.std.specs.Prelude.{◌==◌, Option, Some, None, length, if◌then◌else◌}
 use Rattle.mintc_fraction.specs.Ratio.{IsCeiling, over}
 use Rattle.mintc_text.specs.Lines.{text_of}
 use Rattle.mintc_text.specs.declared.limits.Most.{Most}
+use Rattle.mintc_text.specs.declared.limits.TheConstants.{MOST_BYTES}
 use Rattle.mintc_text.specs.declared.refusals.Refusal.{Refusal}
 use Rattle.mintc_timing.specs.Design.{Timing, phase_count}
 use Rattle.mintc_timing.specs.Violations.{AreViolations}
@@ -153,3 +154,31 @@ IsOfFiles most stated from titles view files told = (t : Timing) × Gives most f
 abbrev pub HasClocks : Most → Stated → Source → Titles → View → List (List ℕ) → Clocks → Type 0
 HasClocks most stated from titles view files told =
     AreShort most files × IsOfFiles most stated from titles view files told
+
+-- ---- a table that is made of files, whose clock description stands beside
+
+-- a clock, where it has so many phases
+abbrev pub of_phases : ℕ → Option Clock → Option Clock
+of_phases count (Some clock) = if length clock.phases == count then Some clock else None
+of_phases count None = None
+
+-- what is read of a clock description beside a table: nothing where it is too long
+abbrev pub IsReadBeside : List ℕ → Option Clock → Type 0
+IsReadBeside text read = IsReadIn text read ⊎ ((MOST_BYTES < length text) × (read ≡ None))
+
+-- the clock of a description beside a table, where it has as many phases, or that of the names of the table's phases
+abbrev pub IsClockBeside : List ℕ → Timing → Clock → Type 0
+IsClockBeside text t clock = (read : Option Clock) × IsReadBeside text read
+    × IsChosen t (of_phases (phase_count t.flat) read) clock
+
+-- The clocks of the schedule of a text behind a table, with the clock description beside it, none of them too long.
+abbrev pub AreBeside : Most → Stated → List ℕ → Titles → View → List (List ℕ) → Clocks → Type 0
+AreBeside most stated text titles view files told = (t : Timing) × Gives most source.Table files t
+    × ((clock : Clock) × IsClockBeside text t clock
+    × IsOfText most stated t clock (own_file source.Table files) titles view told)
+
+-- The clocks of a schedule as SDC, on the bytes of a table and of the file behind it, of which none is refused, with the
+-- clock description beside them.
+abbrev pub HasClocksBeside : Most → Stated → List ℕ → Titles → View → List (List ℕ) → Clocks → Type 0
+HasClocksBeside most stated text titles view files told =
+    AreShort most files × AreBeside most stated text titles view files told

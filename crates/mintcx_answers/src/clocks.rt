@@ -14,6 +14,7 @@ ghost use Rattle.mintcx_answers.specs.Answers.{IsToldVerdict};
 ghost use Rattle.mintcx_answers.specs.Clocks.{AreHolds, HasClocks, IsBeyond, IsChosen, IsClockIn, IsDenied};
 ghost use Rattle.mintcx_answers.specs.Clocks.{IsOfCertificate, IsOfFiles, IsOfLeast, IsOfSchedule, IsOfText};
 ghost use Rattle.mintcx_answers.specs.Clocks.{IsRaised, IsRoundedUp, IsSaid, command_of, is_hold, job_of};
+ghost use Rattle.mintcx_answers.specs.Clocks.{AreBeside, HasClocksBeside, IsClockBeside, IsReadBeside, of_phases};
 
 use crate::jobs::{cycle_of, failed};
 use crate::verdicts::{Judged, told_verdict};
@@ -300,17 +301,21 @@ fn clock_of(alloc: Global, system: &System, read: Option<Clock>) -> Result<Clock
 }
 
 /// The command that reads a design and the text beside it.
-fn command_of(asked: &Statement<'_>) -> Command
-    ensures { result ≡ command_of asked.now.stated asked.now.source }
+fn command_on(stated: Stated, source: Source) -> Command
+    ensures { result ≡ command_of stated source }
 {
-    let job = match asked.stated {
+    let job = match stated {
         Stated::Schedule => Job::Check,
         Stated::Certificate => Job::Verify,
     };
-    Command::OfDesign {
-        job,
-        source: asked.source,
-    }
+    Command::OfDesign { job, source }
+}
+
+/// The command that reads the design of a statement, and the text beside it.
+fn command_of(asked: &Statement<'_>) -> Command
+    ensures { result ≡ command_of asked.now.stated asked.now.source }
+{
+    command_on(asked.stated, asked.source)
 }
 
 /// The clocks of the schedule of a text beside a design's, none of them too long, or their first refusal.
@@ -363,4 +368,90 @@ pub fn clocks_text(
     }
     let read = clock_in(alloc, limits, asked.source, files)?;
     design_clocks(alloc, limits, asked, read, files)
+}
+
+/// The clock of a description, where it can be read.
+fn read_beside(alloc: Global, text: &[u8]) -> Result<Option<Clock>, OutOfMemory>
+    ensures { IfOk result (IsReadBeside text.now) }
+{
+    if text.len() > MOST_BYTES {
+        return Ok(None);
+    }
+    match read_clock(alloc, text) {
+        Ok(clock) => Ok(Some(clock)),
+        Err(Stop::Refused(_)) => Ok(None),
+        Err(Stop::OutOfMemory) => Err(OutOfMemory),
+    }
+}
+
+/// A clock, where it has so many phases.
+fn of_phases(count: u32, read: Option<Clock>) -> Option<Clock>
+    ensures { result ≡ of_phases count read }
+{
+    match read {
+        Some(clock) if clock.phases.items().len() == count as usize => Some(clock),
+        _ => None,
+    }
+}
+
+/// The clock of a description beside a table, or that of the table, by the names of its phases.
+#[tactic(auto, using(crate::proofs::ClockLaws::beside_fits))]
+fn clock_beside(alloc: Global, system: &System, text: &[u8]) -> Result<Clock, OutOfMemory>
+    ensures value { IfOk result (IsClockBeside text.now system.now) }
+    ensures limits { IfOk result KeepsLimits }
+    ensures alike { IfOk result (λ clock. length clock.phases ≡ phase_count system.now.flat) }
+{
+    clocks_keep_limits();
+    let read = read_beside(alloc, text)?;
+    let fitting = of_phases(system.flat().phase_count(), read);
+    clock_of(alloc, system, fitting)
+}
+
+/// The clocks of the schedule of a text behind a table, none of them too long, with the clock description beside it; or
+/// their first refusal.
+fn table_clocks(
+    alloc: Global,
+    limits: &Limits,
+    asked: &Statement<'_>,
+    clock: &[u8],
+    texts: &mut [Bytes],
+) -> Result<Clocks, Stop>
+    requires all { length (source_roles Source.Table) ≤ length texts.old }
+    requires short { AreShort limits.now texts.old }
+    ensures value { IfOk result (AreBeside limits.now asked.now.stated clock.now asked.now.titles.now
+        asked.now.view.now texts.old) }
+    ensures stop { IfErr result
+        (StopsAt (IsJobRefusal limits.now (job_of asked.now.stated) Source.Table texts.old)) }
+{
+    let system = system_of(alloc, limits, Source::Table, texts)?;
+    let clock = clock_beside(alloc, &system, clock)?;
+    let clocked = Clocked {
+        system: &system,
+        clock: &clock,
+        titles: asked.titles,
+        view: asked.view,
+    };
+    let file = own_file(limits, Source::Table, texts);
+    text_clocks(alloc, limits, asked.stated, &clocked, file)
+}
+
+/// The clocks of a schedule as SDC, of a table and of the file behind it, with the clock description of the files that
+/// the table is made of; or their first refusal, which is that of mintc's command for a table.
+pub fn clocks_text_beside(
+    alloc: Global,
+    limits: &Limits,
+    asked: &Statement<'_>,
+    clock: &[u8],
+    files: &mut [Bytes],
+) -> Result<Clocks, Stop>
+    requires count { length files.old ≡ length (roles_of (command_of asked.now.stated Source.Table)) }
+    ensures value { IfOk result (HasClocksBeside limits.now asked.now.stated clock.now asked.now.titles.now
+        asked.now.view.now files.old) }
+    ensures stop { IfErr result (StopsAt (IsFirstRefusal limits.now (command_of asked.now.stated Source.Table) files.old)) }
+{
+    let command = command_on(asked.stated, Source::Table);
+    if let Some(refusal) = too_long(limits, command.roles(), files) {
+        return Err(Stop::Refused(refusal));
+    }
+    table_clocks(alloc, limits, asked, clock, files)
 }

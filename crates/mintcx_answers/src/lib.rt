@@ -20,7 +20,7 @@ mod verdicts;
 
 pub use answering::{Question, answer_text};
 pub use certificates::{Certified, certified_text};
-pub use clocks::{Clocks, Stated, Statement, clocks_text};
+pub use clocks::{Clocks, Stated, Statement, clocks_text, clocks_text_beside};
 pub use halts::Halt;
 pub use pictures::{Motif, Pictured, Sketch, picture_for};
 pub use subjects::{names_beside, subject_of, titles_of};

@@ -1,2 +1,3 @@
 -- What contracts of public calls and laws say:
 pub mod Projects
+pub mod Edges

@@ -10,6 +10,7 @@ use Rattle.toml.specs.Data.{Data, Members, no_members, member, get_member, as_st
 use Rattle.mintc_toml.specs.Documents.{IsDocument}
 use Rattle.mintc_toml.specs.Lookups.{are_texts_in, is_one_of, is_text_in, texts_in, texts_of}
 use Rattle.mintcx_manners.specs.Manners.{unit_of}
+use Rattle.mintcx_project.specs.Edges.{edges_of}
 use Rattle.mintcx_project.specs.declared.sources.Sources.{Sources}
 use Rattle.mintcx_project.specs.declared.project.Settings.{Settings}
 use Rattle.mintcx_project.specs.declared.project.ProjectFault.{ProjectFault}
@@ -24,7 +25,7 @@ top_keys = codes "design" ∷ codes "answer" ∷ []
 -- the keys of the table `design`
 abbrev pub design_keys : List (List ℕ)
 design_keys = codes "netlist" ∷ codes "sdf" ∷ codes "cells" ∷ codes "lib" ∷ codes "clock-cells" ∷ codes "clock"
-    ∷ codes "table" ∷ []
+    ∷ codes "table" ∷ codes "edges" ∷ []
 
 -- the keys of the table `answer`
 abbrev pub answer_keys : List (List ℕ)
@@ -33,6 +34,10 @@ answer_keys = codes "unit" ∷ []
 -- the words that stand for a unit
 abbrev pub units : List (List ℕ)
 units = codes "auto" ∷ codes "fs" ∷ codes "ps" ∷ codes "ns" ∷ []
+
+-- the words that say something of edges
+abbrev pub edge_words : List (List ℕ)
+edge_words = codes "merged" ∷ codes "apart" ∷ []
 
 -- the first key that is none of these
 abbrev pub stray_fault : List (List ℕ) → Members → Option ProjectFault
@@ -62,9 +67,9 @@ are_delays_in at = is_text_in true at || are_texts_in true at
 abbrev pub text_fault : List ℕ → Members → Option ProjectFault
 text_fault key ms = value_fault (is_text_in true (get_member key ms)) key
 
--- the first fault of the table `design`, in the order of its keys here
-abbrev pub design_fault : Members → Option ProjectFault
-design_fault ms = option_or (stray_fault design_keys ms)
+-- the first fault of what the table `design` names, in the order of its keys here
+abbrev pub names_fault : Members → Option ProjectFault
+names_fault ms = option_or (stray_fault design_keys ms)
     (option_or (text_fault (codes "netlist") ms)
     (option_or (value_fault (are_delays_in (get_member (codes "sdf") ms)) (codes "sdf"))
     (option_or (text_fault (codes "cells") ms)
@@ -72,6 +77,14 @@ design_fault ms = option_or (stray_fault design_keys ms)
     (option_or (value_fault (are_texts_in true (get_member (codes "clock-cells") ms)) (codes "clock-cells"))
     (option_or (text_fault (codes "clock") ms)
     (text_fault (codes "table") ms)))))))
+
+-- what the table `design` says of edges is no word for it
+abbrev pub edges_fault : Members → Option ProjectFault
+edges_fault ms = value_fault (is_one_of edge_words (codes "merged") (get_member (codes "edges") ms)) (codes "edges")
+
+-- the first fault of the table `design`: of its keys and of what they name, then of edges
+abbrev pub design_fault : Members → Option ProjectFault
+design_fault ms = option_or (names_fault ms) (edges_fault ms)
 
 -- the first fault of the table `answer`
 abbrev pub answer_fault : Members → Option ProjectFault
@@ -135,6 +148,7 @@ no_sources = record {
   clock_cells = [];
   clock = None;
   table = None;
+  edges = None;
 }
 
 -- with the paths that the table names, each once
@@ -154,9 +168,13 @@ with_lists project ms s = record s {
   clock_cells = texts_in (get_member (codes "clock-cells") ms);
 }
 
+-- with what the table says of edges
+abbrev pub with_edges : Members → Sources → Sources
+with_edges ms s = record s { edges = option_map edges_of (text_at (codes "edges") ms) }
+
 -- the parts of a design that a table names
 abbrev pub sources_in : List ℕ → Members → Sources
-sources_in project ms = with_lists project ms (with_paths project ms no_sources)
+sources_in project ms = with_edges ms (with_lists project ms (with_paths project ms no_sources))
 
 -- what a document says, by its tables `design` and `answer`
 abbrev pub settings_of : List ℕ → Members → Settings

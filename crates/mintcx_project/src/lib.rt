@@ -6,9 +6,11 @@
 //! No contract says what toml's messages are, nor the messages here: those are tested alone.
 #![tactic(auto)]
 
+mod edges;
 mod messages;
 mod project;
 mod sources;
 
+pub use edges::Edges;
 pub use project::{ProjectFault, Settings, no_project, read_project};
 pub use sources::Sources;

@@ -4,11 +4,14 @@ ghost use Rattle.std.specs.List.{list_any};
 ghost use Rattle.toml.specs.Data.{get_member, no_members};
 ghost use Rattle.toml.specs.View.{table_view};
 ghost use Rattle.mintcx_manners.specs.Manners.{unit_of};
+ghost use Rattle.mintcx_project.specs.Edges.{edges_of};
 ghost use Rattle.mintcx_project.specs.Projects.{stray_fault, value_fault, text_fault, design_fault, answer_fault};
+ghost use Rattle.mintcx_project.specs.Projects.{edges_fault, names_fault};
 ghost use Rattle.mintcx_project.specs.Projects.{project_fault, is_table_in, text_at, table_at, folder_len, beside};
 ghost use Rattle.mintcx_project.specs.Projects.{path_at, delays_in, with_paths, with_lists, no_sources, sources_in};
 ghost use Rattle.mintcx_project.specs.Projects.{settings_of, Settles, IsTomlFault, Says, IsFaultOf, no_settings};
 
+use crate::edges::Edges;
 use crate::sources::Sources;
 use mintc_text::{Name, Names, OutOfMemory};
 use mintc_toml::{are_names, is_one_of, is_text, member, names};
@@ -17,7 +20,7 @@ use std::alloc::{AllocFailed, Global};
 use toml::Table;
 
 /// The keys of the table of the design.
-const DESIGN_KEYS: [&str; 7] = [
+const DESIGN_KEYS: [&str; 8] = [
     "netlist",
     "sdf",
     "cells",
@@ -25,10 +28,14 @@ const DESIGN_KEYS: [&str; 7] = [
     "clock-cells",
     "clock",
     "table",
+    "edges",
 ];
 
 /// The units.
 const UNITS: [&str; 4] = ["auto", "fs", "ps", "ns"];
+
+/// What is said of edges.
+const EDGES: [&str; 2] = ["merged", "apart"];
 
 /// What a project file says.
 #[derive(Debug, Drop)]
@@ -165,9 +172,9 @@ fn check_text(alloc: Global, table: &Table, key: &str) -> Result<(), ProjectFaul
     check_value(alloc, is_text(table, key, true), key)
 }
 
-/// Refuses what the table of the design may not hold.
-fn check_design(alloc: Global, table: &Table) -> Result<(), ProjectFault>
-    ensures { Settles (design_fault (table_view table.now)) result }
+/// Refuses what the table of the design may not name.
+fn check_names(alloc: Global, table: &Table) -> Result<(), ProjectFault>
+    ensures { Settles (names_fault (table_view table.now)) result }
 {
     check_keys(alloc, table, &DESIGN_KEYS)?;
     check_text(alloc, table, "netlist")?;
@@ -178,6 +185,21 @@ fn check_design(alloc: Global, table: &Table) -> Result<(), ProjectFault>
     check_value(alloc, are_names(table, "clock-cells", true), "clock-cells")?;
     check_text(alloc, table, "clock")?;
     check_text(alloc, table, "table")
+}
+
+/// Refuses what is no word for edges.
+fn check_edges(alloc: Global, table: &Table) -> Result<(), ProjectFault>
+    ensures { Settles (edges_fault (table_view table.now)) result }
+{
+    check_value(alloc, is_one_of(table, "edges", &EDGES, "merged"), "edges")
+}
+
+/// Refuses what the table of the design may not hold.
+fn check_design(alloc: Global, table: &Table) -> Result<(), ProjectFault>
+    ensures { Settles (design_fault (table_view table.now)) result }
+{
+    check_names(alloc, table)?;
+    check_edges(alloc, table)
 }
 
 /// Refuses what the table of the answer may not hold.
@@ -274,6 +296,20 @@ fn no_sources(alloc: Global) -> Sources
         clock_cells: Names::new(Vec::new(alloc)),
         clock: None,
         table: None,
+        edges: None,
+    }
+}
+
+/// What a table says of edges.
+fn edges_in(table: &Table) -> Option<Edges>
+    ensures { result ≡ option_map edges_of (text_at (codes "edges") (table_view table.now)) }
+{
+    match member(table, "edges") {
+        Some(value) => match value.as_str() {
+            Some(text) => Some(Edges::of(text.as_bytes())),
+            None => None,
+        },
+        None => None,
     }
 }
 
@@ -284,6 +320,7 @@ fn sources_in(alloc: Global, project: &[u8], table: &Table) -> Result<Sources, O
     let mut sources = no_sources(alloc);
     put_paths(alloc, project, table, &mut sources)?;
     put_lists(alloc, project, table, &mut sources)?;
+    sources.edges = edges_in(table);
     Ok(sources)
 }
 

@@ -1,5 +1,6 @@
 //! The parts of a design.
 
+use crate::edges::Edges;
 use mintc_text::{Name, Names};
 
 /// The parts of a design that options or a project file name.
@@ -12,4 +13,6 @@ pub struct Sources {
     pub clock_cells: Names,
     pub clock: Option<Name>,
     pub table: Option<Name>,
+    /// What is said of the edges, where it is.
+    pub edges: Option<Edges>,
 }

@@ -11,6 +11,9 @@ use Rattle.mintcx_manners.specs.declared.manners.TimeUnit.{TimeUnit}
 use Rattle.mintcx_manners.specs.declared.manners.TimeUnit.TheVariants as time_unit
 use Rattle.mintcx_manners.specs.declared.manners.Limit.{Limit}
 use Rattle.mintcx_manners.specs.declared.manners.Limit.TheVariants as rows
+use Rattle.mintcx_project.specs.Edges.{are_apart}
+use Rattle.mintcx_project.specs.declared.edges.Edges.{Edges}
+use Rattle.mintcx_project.specs.declared.edges.Edges.TheVariants as edges
 use Rattle.mintcx_project.specs.declared.sources.Sources.{Sources}
 use Rattle.mintcx_requests.specs.declared.given.Particulars.{Particulars}
 use Rattle.mintcx_requests.specs.declared.given.MannerWords.{MannerWords}
@@ -80,6 +83,7 @@ merged words project = if is_some words.table then words else record {
   clock_cells = clock_cells_or (is_some words.cells) words.clock_cells project.clock_cells;
   clock = option_or words.clock project.clock;
   table = kept (names_a_file words) project.table;
+  edges = option_or words.edges project.edges;
 }
 
 -- ---- the design
@@ -101,26 +105,36 @@ cells_of None (Some library) clock_cells = Ok (cells.Library library clock_cells
 cells_of None None clock_cells =
     if is_empty clock_cells then Err fault.NoCells else Err fault.ClockCellsWithoutLibrary
 
--- the design of four files, or the first fault: of the cells, the netlist, the delays, the clock
+-- what is made of edges, which are merged where nothing is said; for corners they are merged alone
+abbrev pub edges_for : Asked → Option Edges → Result Edges Fault
+edges_for asked said = if are_apart said && not (has_table asked) then Err fault.EdgesOfCorners
+    else Ok (unwrap_or said edges.Merged)
+
+-- the design of four files, or the first fault: of the cells, the netlist, the delays, the clock, the edges
 abbrev pub files_of : Asked → Sources → Result Design Fault
 files_of asked s = and_then (cells_of s.cells s.library s.clock_cells) (λ kind.
     and_then (needed fault.NoNetlist s.netlist) (λ netlist.
     and_then (counted asked s.delays) (λ delays.
-    and_then (needed fault.NoClock s.clock) (λ clock. Ok (design.Files netlist delays kind clock)))))
+    and_then (needed fault.NoClock s.clock) (λ clock.
+    and_then (edges_for asked s.edges) (λ made. Ok (design.Files netlist delays kind clock made))))))
 
 -- no file but a table is named, and no gate of a library
 abbrev pub names_nothing : Sources → Bool
 names_nothing s = not (names_a_file s) && is_empty s.clock_cells
 
+-- a table, in which edges are as they are
+abbrev pub lone_table : Option Edges → Text → Result Design Fault
+lone_table said table = if are_apart said then Err fault.EdgesOfTable else Ok (design.Table table)
+
 -- the design of a table, where nothing else is named and the command takes one delay file
-abbrev pub table_of : Asked → Bool → Text → Result Design Fault
-table_of asked is_lone table = if is_lone
-    then (if has_table asked then Ok (design.Table table) else Err fault.TableOfCorners) else Err fault.TableAndFiles
+abbrev pub table_of : Asked → Bool → Option Edges → Text → Result Design Fault
+table_of asked is_lone said table = if is_lone
+    then (if has_table asked then lone_table said table else Err fault.TableOfCorners) else Err fault.TableAndFiles
 
 -- the design, by the table that is named or else by files
 abbrev pub table_or_files : Asked → Sources → Option Text → Result Design Fault
 table_or_files asked s None = if names_nothing s then Err fault.NoDesign else files_of asked s
-table_or_files asked s (Some table) = table_of asked (names_nothing s) table
+table_or_files asked s (Some table) = table_of asked (names_nothing s) s.edges table
 
 -- a design is one table or four files
 abbrev pub design_of : Asked → Sources → Result Design Fault

@@ -29,6 +29,12 @@ fn plain_text(fault: &Fault) -> &'static str {
         }
         Fault::TableAndFiles => "a table stands in place of the four files, and both are named",
         Fault::TableOfCorners => "corners are of four files, and a table is named",
+        Fault::EdgesOfCorners => {
+            "'--edges apart' is of one delay file; give '--edges merged' for corners"
+        }
+        Fault::EdgesOfTable => {
+            "'--edges apart' is of four files, and a table is named: its edges are as they are"
+        }
         Fault::CellsAndLibrary => "the cells are of '--cells' or of '--lib', and both are named",
         Fault::ClockCellsWithoutLibrary => {
             "'--clock-cell' names a gate of a library, and goes with '--lib' alone"

@@ -1,7 +1,9 @@
 //! What is asked, by the words and the project file together.
 ghost use Rattle.std.specs.Prelude.{◌≡◌, ◌≢◌, Some};
 ghost use Rattle.mintcx_requests.specs.Requests.{list_or, first_or, kept, clock_cells_or, names_a_file, merged};
-ghost use Rattle.mintcx_requests.specs.Requests.{cells_of, counted, files_of, names_nothing, table_of};
+ghost use Rattle.mintcx_project.specs.Edges.{are_apart};
+ghost use Rattle.mintcx_requests.specs.Requests.{cells_of, counted, edges_for, files_of, lone_table, names_nothing};
+ghost use Rattle.mintcx_requests.specs.Requests.{table_of};
 ghost use Rattle.mintcx_requests.specs.Requests.{design_of, cycle_in, optimise_of, schedule_of, draw_of, subject_of};
 ghost use Rattle.mintcx_requests.specs.Requests.{task_of, limit_in, manner_of, request_of};
 
@@ -9,7 +11,7 @@ use crate::commands::Asked;
 use crate::given::{Given, MannerWords, Particulars};
 use mintc_text::{Name, Names};
 use mintcx_manners::{Color, Detail, Format, Limit, TimeUnit, read_time};
-use mintcx_project::{Settings, Sources};
+use mintcx_project::{Edges, Settings, Sources};
 
 /// What the cells of a netlist are read from.
 #[derive(Debug, Drop)]
@@ -29,6 +31,7 @@ pub enum Design {
         delays: Names,
         cells: Cells,
         clock: Name,
+        edges: Edges,
     },
 }
 
@@ -114,6 +117,10 @@ pub enum Fault {
     TableAndFiles,
     /// Corners have no table.
     TableOfCorners,
+    /// Edges are kept apart for corners.
+    EdgesOfCorners,
+    /// Edges are kept apart, and a table is named.
+    EdgesOfTable,
     /// A cell description and a library are named.
     CellsAndLibrary,
     /// Gates of a library are named, and no library.
@@ -193,6 +200,7 @@ fn merged(words: Sources, project: Sources) -> Sources
         clock_cells: clock_cells_or(has_cells, words.clock_cells, project.clock_cells),
         clock: words.clock.or(project.clock),
         table: kept(has_files, project.table),
+        edges: words.edges.or(project.edges),
     }
 }
 
@@ -240,6 +248,23 @@ fn counted(asked: Asked, delays: Names) -> Result<Names, Fault>
     }
 }
 
+/// Whether edges are kept apart.
+fn are_apart(edges: Option<Edges>) -> bool
+    ensures { result ≡ are_apart edges }
+{
+    matches!(edges, Some(Edges::Apart))
+}
+
+/// What is made of edges, which are merged where nothing is said.
+fn edges_for(asked: Asked, edges: Option<Edges>) -> Result<Edges, Fault>
+    ensures { result ≡ edges_for asked edges }
+{
+    if are_apart(edges) && !asked.has_table() {
+        return Err(Fault::EdgesOfCorners);
+    }
+    Ok(edges.unwrap_or(Edges::Merged))
+}
+
 /// The design of four files.
 fn files_of(asked: Asked, sources: Sources) -> Result<Design, Fault>
     ensures { result ≡ files_of asked sources }
@@ -248,11 +273,13 @@ fn files_of(asked: Asked, sources: Sources) -> Result<Design, Fault>
     let netlist = sources.netlist.ok_or(Fault::NoNetlist)?;
     let delays = counted(asked, sources.delays)?;
     let clock = sources.clock.ok_or(Fault::NoClock)?;
+    let edges = edges_for(asked, sources.edges)?;
     Ok(Design::Files {
         netlist,
         delays,
         cells,
         clock,
+        edges,
     })
 }
 
@@ -263,14 +290,25 @@ fn names_nothing(sources: &Sources) -> bool
     !names_a_file(sources) && sources.clock_cells.items().is_empty()
 }
 
+/// The design of a table, in which edges are as they are.
+fn lone_table(edges: Option<Edges>, table: Name) -> Result<Design, Fault>
+    ensures { result ≡ lone_table edges table }
+{
+    if are_apart(edges) {
+        Err(Fault::EdgesOfTable)
+    } else {
+        Ok(Design::Table(table))
+    }
+}
+
 /// The design of a table, which stands alone or not.
-fn table_of(asked: Asked, is_lone: bool, table: Name) -> Result<Design, Fault>
-    ensures { result ≡ table_of asked is_lone table }
+fn table_of(asked: Asked, is_lone: bool, edges: Option<Edges>, table: Name) -> Result<Design, Fault>
+    ensures { result ≡ table_of asked is_lone edges table }
 {
     if !is_lone {
         Err(Fault::TableAndFiles)
     } else if asked.has_table() {
-        Ok(Design::Table(table))
+        lone_table(edges, table)
     } else {
         Err(Fault::TableOfCorners)
     }
@@ -288,8 +326,9 @@ fn design_of(asked: Asked, sources: Sources) -> Result<Design, Fault>
             files_of(asked, sources)
         };
     }
+    let edges = sources.edges;
     let table = sources.table.ok_or(Fault::NoDesign)?;
-    table_of(asked, is_lone, table)
+    table_of(asked, is_lone, edges, table)
 }
 
 /// The cycle time of a text, where there is one.

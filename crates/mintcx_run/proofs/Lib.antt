@@ -4,3 +4,4 @@ mod TakingLaws
 mod RefusalLaws
 mod DeliveryLaws
 mod WarnedLaws
+mod ApartLaws

@@ -1,5 +1,6 @@
 -- The replies to words, requests and calls.
-use Rattle.std.proofs.Common.{arith, ◌⊎◌, ◌≡◌, ◌+◌, ◌<◌, ℕ, List, length, get_or, Bool, true, false, refl, sym, subst, inl, inr, Option, Some, None, MatchOption, Result, Ok, Err, IfErr, Contains}
+use Rattle.std.proofs.Common.{arith, ◌⊎◌, ◌≡◌, ◌+◌, ◌<◌, ◌∙◌, ℕ, List, [], length, get_or, set, ap, Bool, true, false, refl, sym, subst, inl, inr, Option, Some, None, MatchOption, Result, Ok, Err, IfErr, Contains}
+use Rattle.std.proofs.lemmas.List.{set-get_or, set-set}
 use Rattle.std.proofs.lemmas.List.Elements.{Contains-get_or}
 use Rattle.mintc_text.specs.declared.limits.TheConstants.{MOST_BYTES}
 use Rattle.mintc_text.specs.Outside.{Files}
@@ -17,11 +18,16 @@ use Rattle.mintcx_explanations.specs.Explanations.{IsOfNumber, IsRefusalNumber, 
 use Rattle.mintc_text.specs.Limits.{large}
 use Rattle.mintc_command_answers.specs.Corners.{IsFirstRefused, corners_of}
 use Rattle.mintcx_run.specs.declared.answers.Told.{Told}
+use Rattle.mintcx_run.specs.declared.orders.Made.{Made}
 use Rattle.mintcx_run.specs.declared.orders.Order.{Order}
 use Rattle.mintcx_run.specs.declared.reply.Reply.{Reply}
 use Rattle.mintcx_clock_cells.specs.declared.unfit.Unfit.{Unfit}
 use Rattle.mintcx_run.specs.Libraries.{AreGiven, IsUndescribed}
-use Rattle.mintcx_run.specs.Replies.{AreUnread, IsAnswered, IsAnswerReply, IsCallReply, IsCornerReply, IsDeniedCorner, IsDeniedReply, IsEarlyReply, IsExplanationReply, IsGiven, IsGivenReply, IsMessage, IsOrdered, IsOtherReply, IsOutOfMemory, IsPageOf, IsPageOfRefusal, IsPlaced, IsRefusalReply, IsRefused, IsReply, IsSettings, IsTakenReply, IsUnfitReply, IsUnread, IsWordsReply, NamesNoRefusal, NamesNone, read_as}
+use Rattle.mintcx_apart.specs.declared.apart.Apart.{Apart}
+use Rattle.mintcx_apart.specs.declared.apart.Apart.TheVariants as apart
+use Rattle.mintcx_edges.specs.declared.halt.Halt.{Halt}
+use Rattle.mintcx_run.specs.Apart.{IsMade, IsMadeOf, IsUnmade, in_place, of_table}
+use Rattle.mintcx_run.specs.Replies.{AreUnread, IsAnswered, IsApartReply, IsCallReply, IsCornerReply, IsDesignReply, IsEarlyReply, IsExplanationReply, IsGiven, IsGivenReply, IsHaltReply, IsMadeReply, IsMessage, IsOrdered, IsOtherReply, IsOutOfMemory, IsPageOf, IsPageOfRefusal, IsPlaced, IsRefusalReply, IsRefused, IsReply, IsSettings, IsTakenReply, IsTextsReply, IsUnfitReply, IsUnread, IsWordsReply, NamesNoRefusal, NamesNone, read_as}
 use Rattle.mintc_command_answers.specs.Sources.{file_at}
 use Rattle.mintcx_run.specs.Taken.{AreTaken, IsTaken, is_asked}
 use Rattle.mintcx_run.specs.Warned.{AreAllWarned, AreClampsTold}
@@ -55,30 +61,65 @@ pub unread_one : (names : List Text) (n : ℕ) (name : Text) (reply : Reply) →
 unread_one names n name reply below is h = inr (name, subst (λ (x : Text). Contains names x) (sym is) (Contains-get_or names n name below), h)
 
 -- the reply to an order of the texts that are given: its answer, or why there is none
-abbrev pub IsOfGiven : Option Files → Order → List Text → List Text → Reply → Type 0
-IsOfGiven files order fronts given reply = IsAnswerReply order fronts given reply ⊎ (IsDeniedReply files order given reply ⊎ IsDeniedCorner files order given reply)
+pub texts_told : (files : Option Files) (order : Order) (given : List Text) (warnings : Text) (told : Told) (reply : Reply) → IsAnswered order given told → IsPlaced order told reply → reply.warnings ≡ warnings →
+    IsOutOfMemory reply ⊎ IsTextsReply files order given warnings reply
+texts_told files order given warnings told reply h placed warned = inr (inl (told, h, placed, warned))
 
-pub given_told : (files : Option Files) (order : Order) (fronts given : List Text) (told : Told) (reply : Reply) → IsAnswered order given told → IsPlaced order told reply → AreAllWarned order fronts given reply.warnings →
-    IsOutOfMemory reply ⊎ IsOfGiven files order fronts given reply
-given_told files order fronts given told reply h placed warned = inr (inl (told, h, placed, warned))
+pub texts_refused : (files : Option Files) (order : Order) (given : List Text) (warnings : Text) (refused : Refusal) (reply : Reply) → IsRefused order given refused → IsRefusalReply files order refused reply →
+    IsOutOfMemory reply ⊎ IsTextsReply files order given warnings reply
+texts_refused files order given warnings refused reply h said = inr (inr (inl (refused, h, said)))
 
-pub given_refused : (files : Option Files) (order : Order) (fronts given : List Text) (refused : Refusal) (reply : Reply) → IsRefused order given refused → IsRefusalReply files order refused reply →
-    IsOutOfMemory reply ⊎ IsOfGiven files order fronts given reply
-given_refused files order fronts given refused reply h said = inr (inr (inl (refused, h, said)))
+pub texts_refused_corner : (files : Option Files) (order : Order) (given : List Text) (warnings : Text) (corner : ℕ) (own : Refusal) (reply : Reply) → IsRefused order given (refusal.Corner corner) →
+    IsFirstRefused large (corners_of given) 1 corner own → IsCornerReply files order corner own reply → IsOutOfMemory reply ⊎ IsTextsReply files order given warnings reply
+texts_refused_corner files order given warnings corner own reply h first said = inr (inr (inr (corner, own, h, first, said)))
 
-pub given_refused_corner : (files : Option Files) (order : Order) (fronts given : List Text) (corner : ℕ) (own : Refusal) (reply : Reply) → IsRefused order given (refusal.Corner corner) →
-    IsFirstRefused large (corners_of given) 1 corner own → IsCornerReply files order corner own reply → IsOutOfMemory reply ⊎ IsOfGiven files order fronts given reply
-given_refused_corner files order fronts given corner own reply h first said = inr (inr (inr (corner, own, h, first, said)))
+-- the reply where there is a design with edges apart: of its table, or that none can say it
+pub made_said : (files : Option Files) (order asked : Order) (made : Made) (table : Text) (taken texts : List Text) (warnings : Text) (reply : Reply) → IsMadeOf taken made → asked ≡ of_table order made → texts ≡ in_place table taken →
+    IsOutOfMemory reply ⊎ IsTextsReply files asked texts warnings reply → IsOutOfMemory reply ⊎ IsMadeReply files order taken warnings (apart.Said table) reply
+made_said files order asked made table taken texts warnings reply of same put (inl wanting) = inl wanting
+made_said files order asked made table taken texts warnings reply of same put (inr h) = inr (
+  made,
+  of,
+  subst (λ (o : Order). IsTextsReply files o (in_place table taken) warnings reply) same (subst (λ (ts : List Text). IsTextsReply files asked ts warnings reply) put h),
+)
+
+-- the reply to an order of a design with edges apart
+pub apart_made : (files : Option Files) (order : Order) (taken : List Text) (warnings : Text) (told : Apart) (reply : Reply) → IsMade order taken told →
+    IsOutOfMemory reply ⊎ IsMadeReply files order taken warnings told reply → IsOutOfMemory reply ⊎ IsApartReply files order taken warnings reply
+apart_made files order taken warnings told reply made (inl wanting) = inl wanting
+apart_made files order taken warnings told reply made (inr h) = inr (inr (told, made, h))
+
+pub apart_halted : (files : Option Files) (order : Order) (taken : List Text) (warnings : Text) (why : Halt) (reply : Reply) → IsUnmade order taken why → IsHaltReply files order why reply →
+    IsOutOfMemory reply ⊎ IsApartReply files order taken warnings reply
+apart_halted files order taken warnings why reply unmade h = inr (inl (why, unmade, h))
+
+-- the reply to an order, with its warnings, by what it says of edges
+abbrev pub IsWarnedReply : Option Files → Order → List Text → List Text → List Text → Reply → Type 0
+IsWarnedReply files order fronts taken given reply = (warnings : Text) × AreAllWarned order fronts given warnings × IsDesignReply files order taken given warnings reply
+
+pub design_apart : (files : Option Files) (order : Order) (fronts taken given : List Text) (warnings : Text) (reply : Reply) → order.call.apart ≡ true → AreAllWarned order fronts given warnings →
+    IsOutOfMemory reply ⊎ IsApartReply files order taken warnings reply → IsOutOfMemory reply ⊎ IsWarnedReply files order fronts taken given reply
+design_apart files order fronts taken given warnings reply is warned (inl wanting) = inl wanting
+design_apart files order fronts taken given warnings reply is warned (inr h) = inr (warnings, warned, inr (is, h))
+
+pub design_merged : (files : Option Files) (order : Order) (fronts taken given : List Text) (warnings : Text) (reply : Reply) → order.call.apart ≡ false → AreAllWarned order fronts given warnings →
+    IsOutOfMemory reply ⊎ IsTextsReply files order given warnings reply → IsOutOfMemory reply ⊎ IsWarnedReply files order fronts taken given reply
+design_merged files order fronts taken given warnings reply is warned (inl wanting) = inl wanting
+design_merged files order fronts taken given warnings reply is warned (inr h) = inr (warnings, warned, inl (is, h))
 
 -- the reply to an order of what is taken of its files
-pub taken_given : (files : Option Files) (order : Order) (fronts taken given : List Text) (reply : Reply) → AreGiven order taken given → IsOutOfMemory reply ⊎ IsOfGiven files order fronts given reply →
+pub taken_given : (files : Option Files) (order : Order) (fronts taken given : List Text) (reply : Reply) → AreGiven order taken given → IsOutOfMemory reply ⊎ IsWarnedReply files order fronts taken given reply →
     IsTakenReply files order fronts taken reply
 taken_given files order fronts taken given reply are (inl wanting) = inl wanting
-taken_given files order fronts taken given reply are (inr h) = inr (inr (given, are, h))
+taken_given files order fronts taken given reply are (inr (warnings, warned, h)) = inr (inr (given, warnings, are, warned, h))
 
 pub taken_unfit : (files : Option Files) (order : Order) (fronts taken : List Text) (why : Unfit) (reply : Reply) → IsUndescribed order taken why → IsUnfitReply files order why reply →
     IsTakenReply files order fronts taken reply
 taken_unfit files order fronts taken why reply un h = inr (inl (why, un, h))
+
+-- a library back in its place
+pub put_back : (taken : List Text) (at : ℕ) (text library : Text) → library ≡ file_at taken at → set (set taken at text) at library ≡ taken
+put_back taken at text library is = set-set taken at text library ∙ ap (λ (l : Text). set taken at l) is ∙ set-get_or taken at []
 
 -- what is told of delays below 0 doesn't change as the files are read
 pub clamps_as_read : (order as_read : Order) (fronts taken : List Text) (text : Text) → as_read ≡ read_as order taken → AreClampsTold order fronts text → AreClampsTold as_read fronts text

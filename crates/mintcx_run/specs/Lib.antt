@@ -4,4 +4,5 @@ pub mod Replies
 pub mod Deliveries
 pub mod Taken
 pub mod Libraries
+pub mod Apart
 pub mod Warned

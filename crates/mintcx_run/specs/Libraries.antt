@@ -1,5 +1,5 @@
 -- The cells of a library in a description's place.
-use Rattle.std.specs.Prelude.{◌≡◌, ◌<◌, ◌≤◌, ◌⊎◌, ℕ, List, length, slice_set, true, false}
+use Rattle.std.specs.Prelude.{◌≡◌, ◌<◌, ◌≤◌, ◌⊎◌, ℕ, List, length, slice_set, true, false, Option, Some, None}
 use Rattle.mintc_text.specs.declared.limits.TheConstants.{MOST_BYTES}
 use Rattle.mintc_text.specs.declared.refusals.Refusal.TheVariants as refusal
 use Rattle.mintc_text.specs.declared.refusals.Role.TheVariants as role
@@ -32,6 +32,11 @@ AreDescribed at gates taken given =
 abbrev pub AreGiven : Order → List Text → List Text → Type 0
 AreGiven order taken given = ((order.call.of_library ≡ false) × (given ≡ taken))
     ⊎ ((order.call.of_library ≡ true) × AreDescribed (cells_place order.call.command) order.call.gates taken given)
+
+-- the texts with a library back in the place of this number, where there is one
+abbrev pub restored : List Text → ℕ → Option Text → List Text
+restored given at (Some library) = slice_set given at library
+restored given at None = given
 
 -- Why a library has no description for an order.
 abbrev pub IsUndescribed : Order → List Text → Unfit → Type 0

@@ -18,6 +18,7 @@ use Rattle.mintc_command_answers.specs.declared.command.Command.TheVariants.{OfD
 use Rattle.mintc_command_answers.specs.declared.command.Job.TheVariants.{Check, Optimise, Verify, Report, Safe, Slack}
 use Rattle.mintc_command_answers.specs.declared.command.Job.{Job}
 use Rattle.mintc_command_answers.specs.declared.command.Source.{Source}
+use Rattle.mintc_command_answers.specs.declared.command.Source.TheVariants as source
 use Rattle.mintc_command_answers.specs.declared.status.Status.{Status}
 use Rattle.mintc_command_answers.specs.declared.status.Status.TheVariants.{Done, Found, Refused, Usage, ReadFault}
 use Rattle.mintc_command_answers.specs.declared.status.Status.TheVariants.{OutOfMemory}
@@ -58,7 +59,7 @@ use Rattle.mintcx_words.specs.Misread.{IsReading}
 use Rattle.mintcx_words.specs.declared.words.Misread.{Misread}
 use Rattle.mintcx_words.specs.declared.words.Misread.TheVariants as misread
 use Rattle.mintcx_answers.specs.Answers.{HasAnswer, HasCertificate}
-use Rattle.mintcx_answers.specs.Clocks.{HasClocks}
+use Rattle.mintcx_answers.specs.Clocks.{HasClocks, HasClocksBeside}
 use Rattle.mintcx_answers.specs.declared.clocks.Clocks.{Clocks}
 use Rattle.mintcx_answers.specs.declared.clocks.Clocks.TheVariants as clocks
 use Rattle.mintcx_answers.specs.declared.clocks.Stated.{Stated}
@@ -75,6 +76,7 @@ use Rattle.mintcx_picture.specs.declared.drawn.Drawn.TheVariants as drawn
 use Rattle.mintcx_sdc.specs.declared.text.Titles.{Titles}
 use Rattle.mintcx_frame.specs.declared.view.View.{View}
 use Rattle.mintcx_run.specs.declared.answers.Told.{Told}
+use Rattle.mintcx_run.specs.declared.orders.Made.{Made}
 use Rattle.mintcx_run.specs.declared.orders.Order.{Order}
 use Rattle.mintcx_run.specs.declared.reply.Beside.{Beside}
 use Rattle.mintcx_run.specs.declared.reply.Place.{Place}
@@ -82,6 +84,11 @@ use Rattle.mintcx_run.specs.declared.reply.Place.TheVariants as place
 use Rattle.mintcx_run.specs.declared.reply.Reply.{Reply}
 use Rattle.mintcx_clock_cells.specs.declared.unfit.Unfit.{Unfit}
 use Rattle.mintcx_clock_cells.specs.declared.unfit.Unfit.TheVariants as unfit
+use Rattle.mintcx_apart.specs.declared.apart.Apart.{Apart}
+use Rattle.mintcx_apart.specs.declared.apart.Apart.TheVariants as apart
+use Rattle.mintcx_edges.specs.declared.halt.Halt.{Halt}
+use Rattle.mintcx_edges.specs.declared.halt.Halt.TheVariants as halt
+use Rattle.mintcx_run.specs.Apart.{IsMade, IsMadeOf, IsUnmade, in_place, of_table}
 use Rattle.mintcx_run.specs.Libraries.{AreGiven, IsUndescribed}
 use Rattle.mintcx_run.specs.Taken.{AreTaken}
 use Rattle.mintcx_run.specs.Warned.{AreAllWarned}
@@ -166,7 +173,7 @@ IsSettingsReply files (Some name) reply = IsSilentIn files name reply ⊎ IsUnre
 abbrev pub IsOrderOf : Request → Order → Type 0
 IsOrderOf (request.Explain topic) order = ⊥
 IsOrderOf (request.OfDesign what files clamp manner) order =
-    (call_for manner.format clamp what files ≡ Ok order.call) × (order.manner ≡ manner)
+    (call_for manner.format clamp what files ≡ Ok order.call) × (order.manner ≡ manner) × (order.made ≡ None)
 
 -- something of a task on a design isn't there yet, and it is said
 abbrev pub IsGapReply : Request → Reply → Type 0
@@ -274,6 +281,18 @@ abbrev pub AreClocks : Stated → Source → List Text → View → Told → Typ
 AreClocks stated from fronts view told = (titles : Titles) × (what : Clocks)
     × HasClocks large stated from titles view fronts what × IsToldOf what told
 
+-- the same of a schedule behind a table that is made of files, whose clock description stands beside
+abbrev pub AreMadeClocks : Made → Stated → List Text → View → Told → Type 0
+AreMadeClocks made stated fronts view told = (titles : Titles) × (what : Clocks)
+    × HasClocksBeside large stated made.clock.text titles view fronts what × IsToldOf what told
+
+-- the clocks of a schedule beside a design, or behind a table that is made
+abbrev pub AreClocksOf : Option Made → Stated → Source → List Text → View → Told → Type 0
+AreClocksOf made stated source.Files fronts view told = AreClocks stated source.Files fronts view told
+AreClocksOf made stated source.Liberty fronts view told = AreClocks stated source.Liberty fronts view told
+AreClocksOf (Some made) stated source.Table fronts view told = AreMadeClocks made stated fronts view told
+AreClocksOf None stated source.Table fronts view told = AreClocks stated source.Table fronts view told
+
 -- it is told that nothing is drawn
 abbrev pub IsUndrawn : Told → Type 0
 IsUndrawn told = (told.status ≡ Found) × (told.is_message ≡ true) × (told.certificate ≡ None)
@@ -316,9 +335,9 @@ IsTable from fronts told = (what : Tabled) × HasTable large from fronts what ×
 -- an answer for people without a certificate beside it: clocks, a picture, a table, or another one
 abbrev pub IsByAspect : Aspect → Command → Order → List Text → View → Told → Type 0
 IsByAspect aspect.Clocks (OfDesign Check from) order fronts view told =
-    AreClocks stated.Schedule from fronts view told
+    AreClocksOf order.made stated.Schedule from fronts view told
 IsByAspect aspect.Clocks (OfDesign Verify from) order fronts view told =
-    AreClocks stated.Certificate from fronts view told
+    AreClocksOf order.made stated.Certificate from fronts view told
 IsByAspect aspect.Picture (OfDesign job from) order fronts view told =
     IsOfMotif (motif_of job) from order fronts view told
 IsByAspect aspect.Table (OfDesign Optimise from) order fronts view told = IsTable from fronts told
@@ -368,10 +387,14 @@ IsRefused order fronts refused = (is_own order ≡ false) × IsFirstRefusal larg
 
 -- ---- refusals, as they are told
 
+-- the file of a number, counted from 0, is one: a table that is made is the first, and stands in none
+abbrev pub IsStanding : Order → ℕ → Type 0
+IsStanding order n = (order.made ≡ None) ⊎ (0 < n)
+
 -- The first bytes of the file that a refusal speaks of, one more than a file may have; or none.
 abbrev pub IsRefusedFile : Option Files → Order → Refusal → Text → Type 0
 IsRefusedFile files order refused file = (file ≡ []) ⊎ ((n : ℕ) × IsFile (roles_of order.call.command) refused n
-    × IsFront files (slice_index_or order.call.files n []) (MOST_BYTES + 1) file)
+    × IsStanding order n × IsFront files (slice_index_or order.call.files n []) (MOST_BYTES + 1) file)
 
 -- the answer is an object, and so is a refusal
 abbrev pub is_object : Format → Bool
@@ -490,10 +513,10 @@ IsCornerReply files order corner own reply = IsOutOfMemory reply
 
 -- ---- the reply
 
--- the answer to an order of the texts that are given, where it wants it, with its warnings and those of delays below 0
-abbrev pub IsAnswerReply : Order → List Text → List Text → Reply → Type 0
-IsAnswerReply order fronts given reply = (told : Told) × IsAnswered order given told × IsPlaced order told reply
-    × AreAllWarned order fronts given reply.warnings
+-- the answer to an order of the texts that are given, where it wants it, with these warnings
+abbrev pub IsAnswerReply : Order → List Text → Text → Reply → Type 0
+IsAnswerReply order given warnings reply = (told : Told) × IsAnswered order given told × IsPlaced order told reply
+    × (reply.warnings ≡ warnings)
 
 -- why there is none: the files are refused
 abbrev pub IsDeniedReply : Option Files → Order → List Text → Reply → Type 0
@@ -506,19 +529,49 @@ IsDeniedCorner files order given reply = (corner : ℕ) × (own : Refusal)
     × IsRefused order given (refusal.Corner corner) × IsFirstRefused large (corners_of given) 1 corner own
     × IsCornerReply files order corner own reply
 
+-- the reply to an order of the texts that are given: its answer, or why there is none
+abbrev pub IsTextsReply : Option Files → Order → List Text → Text → Reply → Type 0
+IsTextsReply files order given warnings reply = IsAnswerReply order given warnings reply
+    ⊎ (IsDeniedReply files order given reply ⊎ IsDeniedCorner files order given reply)
+
+-- why there is no design with edges apart: its refusal, or a message on a gate
+abbrev pub IsHaltReply : Option Files → Order → Halt → Reply → Type 0
+IsHaltReply files order (halt.Refused refused) reply = IsRefusalReply files order refused reply
+IsHaltReply files order halt.OutOfMemory reply = IsOutOfMemory reply
+IsHaltReply files order gate reply = IsMessage Usage reply
+
+-- the reply where there is one: that to the order, asked of its table in the place of the four files, or a message that
+-- no table can say it
+abbrev pub IsMadeReply : Option Files → Order → List Text → Text → Apart → Reply → Type 0
+IsMadeReply files order taken warnings (apart.Said table) reply = (made : Made) × IsMadeOf taken made
+    × IsTextsReply files (of_table order made) (in_place table taken) warnings reply
+IsMadeReply files order taken warnings (apart.Unsaid obstacle) reply = IsMessage Found reply
+
+-- the reply to an order of the design with edges apart of what is taken of its files
+abbrev pub IsApartReply : Option Files → Order → List Text → Text → Reply → Type 0
+IsApartReply files order taken warnings reply =
+    ((why : Halt) × IsUnmade order taken why × IsHaltReply files order why reply)
+    ⊎ ((told : Apart) × IsMade order taken told × IsMadeReply files order taken warnings told reply)
+
+-- the reply to an order, by what it says of edges: of the texts that are given, or of what is taken of its files
+abbrev pub IsDesignReply : Option Files → Order → List Text → List Text → Text → Reply → Type 0
+IsDesignReply files order taken given warnings reply =
+    ((order.call.apart ≡ false) × IsTextsReply files order given warnings reply)
+    ⊎ ((order.call.apart ≡ true) × IsApartReply files order taken warnings reply)
+
 -- why a library has no description: its refusal, or a message on a gate
 abbrev pub IsUnfitReply : Option Files → Order → Unfit → Reply → Type 0
 IsUnfitReply files order (unfit.Refused refused) reply = IsRefusalReply files order refused reply
 IsUnfitReply files order unfit.OutOfMemory reply = IsOutOfMemory reply
 IsUnfitReply files order gate reply = IsMessage Usage reply
 
--- The reply to an order of what is taken of its files: its library has no description; or its answer, or why there is
--- none; or memory was wanting.
+-- The reply to an order of what is taken of its files: its library has no description; or its answer, with its warnings
+-- and those of delays below 0, or why there is none; or memory was wanting.
 abbrev pub IsTakenReply : Option Files → Order → List Text → List Text → Reply → Type 0
 IsTakenReply files order fronts taken reply = IsOutOfMemory reply
     ⊎ (((why : Unfit) × IsUndescribed order taken why × IsUnfitReply files order why reply)
-    ⊎ ((given : List Text) × AreGiven order taken given × (IsAnswerReply order fronts given reply
-    ⊎ (IsDeniedReply files order given reply ⊎ IsDeniedCorner files order given reply))))
+    ⊎ ((given : List Text) × (warnings : Text) × AreGiven order taken given × AreAllWarned order fronts given warnings
+    × IsDesignReply files order taken given warnings reply))
 
 -- The last file begins as the text of a schedule does.
 abbrev pub has_schedule : List Text → Bool
@@ -550,10 +603,12 @@ read_as order fronts = record {
     of_library = order.call.of_library;
     gates = order.call.gates;
     clamp = order.call.clamp;
+    apart = order.call.apart;
     files = order.call.files;
     certificate = order.call.certificate;
   };
   manner = order.manner;
+  made = order.made;
 }
 
 -- The reply to a call of mintc over the files of a shelf: a file can't be read, or the answer in its form, of what is

@@ -9,18 +9,20 @@ ghost use Rattle.mintcx_answers.specs.Answers.{IsOnFiles};
 ghost use Rattle.mintcx_answers.specs.Clocks.{job_of};
 ghost use Rattle.mintcx_answers.specs.Halts.{HaltsAt};
 ghost use Rattle.mintcx_answers.specs.Pictures.{job_of as job_for};
+ghost use Rattle.mintcx_run.specs.Replies.{AreClocksOf, AreMadeClocks};
 ghost use Rattle.mintcx_run.specs.Replies.{AreClocks, IsAnswered, IsCertified, IsForPeople};
 ghost use Rattle.mintcx_run.specs.Replies.{IsLone, IsPlain, IsRefused, certified_source};
 ghost use Rattle.mintcx_run.specs.Replies.{IsPictured, IsTable, IsToldOf, IsToldPicture, IsToldTable, IsUncertified};
 ghost use Rattle.mintcx_run.specs.Replies.{IsUndrawn, has_one_form, is_own, motif_of};
 
-use crate::orders::Order;
+use crate::orders::{Made, Order};
 use crate::unsaid::{ClockText, clock_among, unsaid_text};
 use mintc_command_answers::{Answer, Command, Job, Source, Status, answer_to};
 use mintc_text::{Bytes, Limits, Name, OutOfMemory, Stop};
 use mintcx_answers::{
     Clocks, Halt, Motif, Pictured, Question, Sketch, Stated, Statement, Tabled, answer_text,
-    certified_text, clocks_text, names_beside, picture_for, subject_of, table_for, titles_of,
+    certified_text, clocks_text, clocks_text_beside, names_beside, picture_for, subject_of,
+    table_for, titles_of,
 };
 use mintcx_frame::View;
 use mintcx_manners::Format;
@@ -59,7 +61,10 @@ fn view_of(alloc: Global, order: &Order, files: &[Bytes]) -> Result<View, OutOfM
     ensures unit { IfOk result (λ view. view.unit ≡ order.now.manner.unit) }
     ensures limit { IfOk result (λ view. view.limit ≡ order.now.manner.limit) }
 {
-    let subject = subject_of(alloc, order.call.command, order.call.files.items(), files)?;
+    let subject = match &order.made {
+        Some(made) => Name::new(alloc, made.subject.bytes())?,
+        None => subject_of(alloc, order.call.command, order.call.files.items(), files)?,
+    };
     Ok(View {
         subject,
         unit: order.manner.unit,
@@ -136,7 +141,7 @@ fn lone_answer(alloc: Global, order: &Order, view: &View, files: &mut [Bytes]) -
 fn told_of(
     alloc: Global,
     clocks: Clocks,
-    clock: &Option<ClockText>,
+    clock: Option<&ClockText>,
     view: &View,
 ) -> Result<Told, OutOfMemory>
     ensures value { IfOk result (IsToldOf clocks) }
@@ -189,7 +194,65 @@ fn clocks_answer(
         view,
     };
     let clocks = clocks_text(alloc, &Limits::large(), &asked, files)?;
-    Ok(told_of(alloc, clocks, &clock, view)?)
+    Ok(told_of(alloc, clocks, clock.as_ref(), view)?)
+}
+
+/// The clocks of a schedule that is stated behind a table that is made of files.
+fn made_clocks(
+    alloc: Global,
+    stated: Stated,
+    made: &Made,
+    names: &[Name],
+    view: &View,
+    files: &mut [Bytes],
+) -> Result<Told, Stop>
+    requires count { length files.old ≡ length (roles_of (Command.OfDesign (job_of stated) Source.Table)) }
+    requires names { length names.now ≡ length files.old }
+    ensures value { IfOk result (AreMadeClocks made.now stated files.old view.now) }
+    ensures of_command { IfOk result (λ told. IsOfCommand told.status) }
+    ensures stop { IfErr result
+        (StopsAt (IsFirstRefusal large (Command.OfDesign (job_of stated) Source.Table) files.old)) }
+{
+    let own = titles_of(alloc, Source::Table, names, files)?;
+    let asked = Statement {
+        source: Source::Table,
+        stated,
+        titles: match &made.titles {
+            Some(titles) => titles,
+            None => &own,
+        },
+        view,
+    };
+    let text = made.clock.text.items();
+    let clocks = clocks_text_beside(alloc, &Limits::large(), &asked, text, files)?;
+    Ok(told_of(alloc, clocks, Some(&made.clock), view)?)
+}
+
+/// The clocks of a schedule that is stated in the last file of an order.
+fn stated_clocks(
+    alloc: Global,
+    order: &Order,
+    stated: Stated,
+    source: Source,
+    view: &View,
+    files: &mut [Bytes],
+) -> Result<Told, Stop>
+    requires count { length files.old ≡ length (roles_of (Command.OfDesign (job_of stated) source)) }
+    requires names { length order.now.call.files ≡ length files.old }
+    ensures value { IfOk result (AreClocksOf order.now.made stated source files.old view.now) }
+    ensures of_command { IfOk result (λ told. IsOfCommand told.status) }
+    ensures stop { IfErr result
+        (StopsAt (IsFirstRefusal large (Command.OfDesign (job_of stated) source) files.old)) }
+{
+    let names = order.call.files.items();
+    match source {
+        Source::Table => match &order.made {
+            Some(made) => made_clocks(alloc, stated, made, names, view, files),
+            None => clocks_answer(alloc, stated, Source::Table, names, view, files),
+        },
+        Source::Files => clocks_answer(alloc, stated, Source::Files, names, view, files),
+        Source::Liberty => clocks_answer(alloc, stated, Source::Liberty, names, view, files),
+    }
 }
 
 /// A message that nothing is drawn, and why.
@@ -337,14 +400,14 @@ fn uncertified_answer(
                 job: Job::Check,
                 source,
             },
-        ) => Ok(clocks_answer(alloc, Stated::Schedule, source, names, view, files)?),
+        ) => Ok(stated_clocks(alloc, order, Stated::Schedule, source, view, files)?),
         (
             Aspect::Clocks,
             Command::OfDesign {
                 job: Job::Verify,
                 source,
             },
-        ) => Ok(clocks_answer(alloc, Stated::Certificate, source, names, view, files)?),
+        ) => Ok(stated_clocks(alloc, order, Stated::Certificate, source, view, files)?),
         (
             Aspect::Table,
             Command::OfDesign {

@@ -5,14 +5,17 @@ ghost use Rattle.mintc_command.specs.Answers.{MakesAtMost};
 ghost use Rattle.mintc_command_answers.specs.Commands.{IsNumberInRange, roles_of};
 ghost use Rattle.mintc_command_answers.specs.declared.status.Status.TheVariants.{ReadFault, WriteFault};
 ghost use Rattle.mintcx_answers.specs.Answers.{IsOnFiles};
-ghost use Rattle.mintcx_translation.specs.Calls.{cells_place};
-ghost use Rattle.mintcx_run.specs.Replies.{IsAnswerReply, IsCallReply, IsDeniedCorner, IsDeniedReply, IsGivenReply};
+ghost use Rattle.mintcx_translation.specs.Calls.{cells_place, takes_four};
+ghost use Rattle.mintcx_run.specs.Libraries.{restored};
+ghost use Rattle.mintcx_run.specs.Replies.{IsApartReply, IsCallReply, IsDesignReply, IsGivenReply, IsHaltReply};
+ghost use Rattle.mintcx_run.specs.Replies.{IsMadeReply, IsMessage, IsTextsReply};
 ghost use Rattle.mintcx_run.specs.Replies.{IsOutOfMemory, IsPlaced, IsReply, IsTakenReply, IsUnfitReply, beside_of};
 ghost use Rattle.mintcx_run.specs.Replies.{command_as, has_schedule, place_of, read_as, takes_schedules, told_place};
-ghost use Rattle.mintcx_run.specs.Warned.{AreClampsTold};
+ghost use Rattle.mintcx_run.specs.Warned.{AreAllWarned, AreClampsTold};
 
 use crate::answers::{Told, answer_of};
-use crate::libraries::describe;
+use crate::apart::{in_place, made_of, make_apart, of_table};
+use crate::libraries::{describe, restored};
 use crate::orders::{Order, order_for};
 use crate::projects::given_of;
 use crate::reading::read_files;
@@ -20,9 +23,10 @@ use crate::refusals::{gate_reply, refused, refused_corner};
 use crate::reply::{Beside, Place, Reply};
 use crate::taking::take_files;
 use crate::warned::{all_warnings, clamps_for};
-use mintc_command_answers::{Command, Job};
+use mintc_command_answers::{Command, Job, Status};
 use mintc_text::{Bytes, Name, Shelf};
 use mintcx_answers::Halt;
+use mintcx_apart::{Apart, Halt as EdgeHalt, Obstacle};
 use mintcx_clock_cells::Unfit;
 use mintcx_requests::{Given, Manner};
 use mintcx_translation::{Aspect, Call, cells_place};
@@ -97,6 +101,7 @@ fn command_as(aspect: Aspect, command: Command, files: &[Bytes]) -> Command
     ensures count { length (roles_of result) ≡ length (roles_of command) }
     ensures in_range { IsNumberInRange command → IsNumberInRange result }
     ensures on_files { IsOnFiles command → IsOnFiles result }
+    ensures four { takes_four result ≡ takes_four command }
 {
     match command {
         Command::OfDesign {
@@ -120,6 +125,7 @@ fn read_as(order: Order, files: &[Bytes]) -> Order
     ensures count { length (roles_of result.call.command) ≡ length (roles_of order.call.command) }
     ensures in_range { IsNumberInRange order.call.command → IsNumberInRange result.call.command }
     ensures on_files { IsOnFiles order.call.command → IsOnFiles result.call.command }
+    ensures four { takes_four result.call.command ≡ takes_four order.call.command }
 {
     let command = command_as(order.call.aspect, order.call.command, files);
     Order {
@@ -128,14 +134,140 @@ fn read_as(order: Order, files: &[Bytes]) -> Order
             ..order.call
         },
         manner: order.manner,
+        made: order.made,
     }
 }
 
-/// The reply to an order of the texts that are given, and of the warnings of delays below 0.
-fn given_files_reply<S: Shelf>(
+/// The reply to an order of the texts that are given, with these warnings.
+fn texts_reply<S: Shelf>(
     alloc: Global,
     order: Order,
     mut files: Vec<Bytes>,
+    warnings: Bytes,
+    shelf: &mut S,
+) -> Reply
+    requires count { length order.call.files ≡ length (roles_of order.call.command) }
+    requires files { length files.items ≡ length (roles_of order.call.command) }
+    requires in_range { IsNumberInRange order.call.command }
+    requires on_files { IsOnFiles order.call.command }
+    ensures reply { IsOutOfMemory result ⊎ IsTextsReply (S.files shelf.old) order files.items warnings result }
+    ensures no_fault { result.status ≢ WriteFault }
+    ensures no_read { result.status ≢ ReadFault }
+    ensures same { S.files shelf.new ≡ S.files shelf.old }
+    ensures later { S.faults shelf.old ≤ S.faults shelf.new }
+    ensures reads { MakesAtMost 2 (S.calls shelf.old) (S.calls shelf.new) }
+{
+    match answer_of(alloc, &order, files.as_mut_slice()) {
+        Ok(told) => placed(order, told, warnings),
+        Err(Halt::Refused(refusal)) => refused(alloc, &order, &refusal, shelf),
+        Err(Halt::Corner { corner, own }) => refused_corner(alloc, &order, corner, &own, shelf),
+        Err(Halt::OutOfMemory) => Reply::out_of_memory(alloc),
+    }
+}
+
+/// The reply where there is a design with edges apart, of what is taken of the files of an order.
+fn made_reply<S: Shelf>(
+    alloc: Global,
+    order: Order,
+    told: Apart,
+    files: Vec<Bytes>,
+    warnings: Bytes,
+    shelf: &mut S,
+) -> Reply
+    requires count { length order.call.files ≡ length (roles_of order.call.command) }
+    requires files { length files.items ≡ length (roles_of order.call.command) }
+    requires in_range { IsNumberInRange order.call.command }
+    requires on_files { IsOnFiles order.call.command }
+    requires four { takes_four order.call.command ≡ true }
+    ensures reply { IsOutOfMemory result ⊎ IsMadeReply (S.files shelf.old) order files.items warnings told result }
+    ensures no_fault { result.status ≢ WriteFault }
+    ensures no_read { result.status ≢ ReadFault }
+    ensures same { S.files shelf.new ≡ S.files shelf.old }
+    ensures later { S.faults shelf.old ≤ S.faults shelf.new }
+    ensures reads { MakesAtMost 2 (S.calls shelf.old) (S.calls shelf.new) }
+{
+    match told {
+        Apart::Said(table) => match made_of(alloc, &order, files.as_slice()) {
+            Ok(made) => {
+                let texts = in_place(table, files);
+                texts_reply(alloc, of_table(order, made), texts, warnings, shelf)
+            }
+            Err(_) => Reply::out_of_memory(alloc),
+        },
+        Apart::Unsaid(obstacle) => unsaid_reply(alloc, &obstacle),
+    }
+}
+
+/// The reply that no table can say a design.
+fn unsaid_reply(alloc: Global, obstacle: &Obstacle) -> Reply
+    ensures message { IsMessage Status.Found result }
+    ensures no_fault { result.status ≢ WriteFault }
+    ensures no_read { result.status ≢ ReadFault }
+{
+    match format!(in alloc; "edges can't be kept apart: {obstacle}") {
+        Ok(said) => Reply::message(alloc, Status::Found, &said),
+        Err(_) => Reply::out_of_memory(alloc),
+    }
+}
+
+/// What is said of a gate that is no cell of its library.
+const UNKNOWN: &str = "names no cell of the library";
+
+/// What is said of a gate that can't carry the clock alone.
+const UNUSABLE: &str = "names no gate of one input and one output, which follows or inverts it";
+
+/// The reply where there is no design with edges apart.
+fn halt_reply<S: Shelf>(alloc: Global, order: &Order, why: &EdgeHalt, shelf: &mut S) -> Reply
+    requires in_range { IsNumberInRange order.now.call.command }
+    requires names { length order.now.call.files ≡ length (roles_of order.now.call.command) }
+    ensures reply { IsHaltReply (S.files shelf.old) order.now why.now result }
+    ensures no_fault { result.status ≢ WriteFault }
+    ensures no_read { result.status ≢ ReadFault }
+    ensures same { S.files shelf.new ≡ S.files shelf.old }
+    ensures later { S.faults shelf.old ≤ S.faults shelf.new }
+    ensures reads { MakesAtMost 2 (S.calls shelf.old) (S.calls shelf.new) }
+{
+    match why {
+        EdgeHalt::Refused(refusal) => refused(alloc, order, refusal, shelf),
+        EdgeHalt::Unknown { at } => gate_reply(alloc, order, *at, UNKNOWN),
+        EdgeHalt::Unusable { at } => gate_reply(alloc, order, *at, UNUSABLE),
+        EdgeHalt::OutOfMemory => Reply::out_of_memory(alloc),
+    }
+}
+
+/// The reply to an order of the design with edges apart of what is taken of its files, with these warnings.
+fn apart_reply<S: Shelf>(
+    alloc: Global,
+    order: Order,
+    files: Vec<Bytes>,
+    warnings: Bytes,
+    shelf: &mut S,
+) -> Reply
+    requires count { length order.call.files ≡ length (roles_of order.call.command) }
+    requires files { length files.items ≡ length (roles_of order.call.command) }
+    requires in_range { IsNumberInRange order.call.command }
+    requires on_files { IsOnFiles order.call.command }
+    requires four { takes_four order.call.command ≡ true }
+    ensures reply { IsOutOfMemory result ⊎ IsApartReply (S.files shelf.old) order files.items warnings result }
+    ensures no_fault { result.status ≢ WriteFault }
+    ensures no_read { result.status ≢ ReadFault }
+    ensures same { S.files shelf.new ≡ S.files shelf.old }
+    ensures later { S.faults shelf.old ≤ S.faults shelf.new }
+    ensures reads { MakesAtMost 2 (S.calls shelf.old) (S.calls shelf.new) }
+{
+    match make_apart(alloc, &order, files.as_slice()) {
+        Ok(told) => made_reply(alloc, order, told, files, warnings, shelf),
+        Err(why) => halt_reply(alloc, &order, &why, shelf),
+    }
+}
+
+/// The reply to an order of the texts that are given, or, where edges are kept apart, of what is taken of its files;
+/// `library` is what was taken of a library that is described, and `clamps` are the warnings of delays below 0.
+fn design_reply<S: Shelf>(
+    alloc: Global,
+    order: Order,
+    library: Option<Bytes>,
+    files: Vec<Bytes>,
     clamps: Bytes,
     shelf: &mut S,
 ) -> Reply
@@ -143,10 +275,10 @@ fn given_files_reply<S: Shelf>(
     requires files { length files.items ≡ length (roles_of order.call.command) }
     requires in_range { IsNumberInRange order.call.command }
     requires on_files { IsOnFiles order.call.command }
-    ensures reply { (fronts : List (List ℕ)) → AreClampsTold order fronts clamps →
-        IsOutOfMemory result ⊎ (IsAnswerReply order fronts files.items result
-        ⊎ (IsDeniedReply (S.files shelf.old) order files.items result
-        ⊎ IsDeniedCorner (S.files shelf.old) order files.items result)) }
+    requires four { order.call.apart ≡ true → takes_four order.call.command ≡ true }
+    ensures reply { (fronts : List (List ℕ)) → AreClampsTold order fronts clamps → IsOutOfMemory result
+        ⊎ ((warnings : List ℕ) × AreAllWarned order fronts files.items warnings × IsDesignReply (S.files shelf.old)
+        order (restored files.items (cells_place order.call.command) library) files.items warnings result) }
     ensures no_fault { result.status ≢ WriteFault }
     ensures no_read { result.status ≢ ReadFault }
     ensures same { S.files shelf.new ≡ S.files shelf.old }
@@ -154,11 +286,12 @@ fn given_files_reply<S: Shelf>(
     ensures reads { MakesAtMost 2 (S.calls shelf.old) (S.calls shelf.new) }
 {
     let warnings = all_warnings(alloc, &order, clamps, files.as_slice());
-    match answer_of(alloc, &order, files.as_mut_slice()) {
-        Ok(told) => placed(order, told, warnings),
-        Err(Halt::Refused(refusal)) => refused(alloc, &order, &refusal, shelf),
-        Err(Halt::Corner { corner, own }) => refused_corner(alloc, &order, corner, &own, shelf),
-        Err(Halt::OutOfMemory) => Reply::out_of_memory(alloc),
+    if order.call.apart {
+        let at = cells_place(order.call.command);
+        let taken = restored(files, at, library);
+        apart_reply(alloc, order, taken, warnings, shelf)
+    } else {
+        texts_reply(alloc, order, files, warnings, shelf)
     }
 }
 
@@ -175,13 +308,8 @@ fn unfit_reply<S: Shelf>(alloc: Global, order: &Order, why: &Unfit, shelf: &mut 
 {
     match why {
         Unfit::Refused(refusal) => refused(alloc, order, refusal, shelf),
-        Unfit::Unknown { at } => gate_reply(alloc, order, *at, "names no cell of the library"),
-        Unfit::Unusable { at } => gate_reply(
-            alloc,
-            order,
-            *at,
-            "names no gate of one input and one output, which follows or inverts it",
-        ),
+        Unfit::Unknown { at } => gate_reply(alloc, order, *at, UNKNOWN),
+        Unfit::Unusable { at } => gate_reply(alloc, order, *at, UNUSABLE),
         Unfit::OutOfMemory => Reply::out_of_memory(alloc),
     }
 }
@@ -200,6 +328,7 @@ fn described_reply<S: Shelf>(
     requires in_range { IsNumberInRange order.call.command }
     requires on_files { IsOnFiles order.call.command }
     requires described { order.call.of_library ≡ true }
+    requires four { order.call.apart ≡ true → takes_four order.call.command ≡ true }
     requires library { cells_place order.call.command < length order.call.files }
     ensures reply { (fronts : List (List ℕ)) → AreClampsTold order fronts clamps →
         IsTakenReply (S.files shelf.old) order fronts files.items result }
@@ -211,7 +340,7 @@ fn described_reply<S: Shelf>(
 {
     let at = cells_place(order.call.command);
     match describe(alloc, at, order.call.gates.items(), files.as_mut_slice()) {
-        Ok(()) => given_files_reply(alloc, order, files, clamps, shelf),
+        Ok(library) => design_reply(alloc, order, Some(library), files, clamps, shelf),
         Err(why) => unfit_reply(alloc, &order, &why, shelf),
     }
 }
@@ -229,6 +358,7 @@ fn taken_reply<S: Shelf>(
     requires in_range { IsNumberInRange order.call.command }
     requires on_files { IsOnFiles order.call.command }
     requires library { order.call.of_library ≡ true → cells_place order.call.command < length order.call.files }
+    requires four { order.call.apart ≡ true → takes_four order.call.command ≡ true }
     ensures reply { (fronts : List (List ℕ)) → AreClampsTold order fronts clamps →
         IsTakenReply (S.files shelf.old) order fronts files.items result }
     ensures no_fault { result.status ≢ WriteFault }
@@ -240,7 +370,7 @@ fn taken_reply<S: Shelf>(
     if order.call.of_library {
         described_reply(alloc, order, files, clamps, shelf)
     } else {
-        given_files_reply(alloc, order, files, clamps, shelf)
+        design_reply(alloc, order, None, files, clamps, shelf)
     }
 }
 
@@ -250,6 +380,7 @@ fn call_reply<S: Shelf>(alloc: Global, order: Order, shelf: &mut S) -> Reply
     requires in_range { IsNumberInRange order.call.command }
     requires on_files { IsOnFiles order.call.command }
     requires library { order.call.of_library ≡ true → cells_place order.call.command < length order.call.files }
+    requires four { order.call.apart ≡ true → takes_four order.call.command ≡ true }
     ensures reply { IsCallReply (S.files shelf.old) order result }
     ensures no_fault { result.status ≢ WriteFault }
     ensures same { S.files shelf.new ≡ S.files shelf.old }

@@ -12,6 +12,7 @@
 
 mod adapters;
 mod answers;
+mod apart;
 mod calling;
 mod folder;
 mod libraries;

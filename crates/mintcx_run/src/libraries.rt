@@ -2,7 +2,7 @@
 ghost use Rattle.std.specs.Prelude.{◌≡◌, ◌<◌, length, IfErr, IfOk};
 ghost use Rattle.mintc_command_answers.specs.Sources.{file_at};
 ghost use Rattle.mintcx_clock_cells.specs.Clocks.{HasClockCells};
-ghost use Rattle.mintcx_run.specs.Libraries.{AreDescribed, IsDescriptionOf, IsUnfitLibrary};
+ghost use Rattle.mintcx_run.specs.Libraries.{AreDescribed, IsDescriptionOf, IsUnfitLibrary, restored};
 
 use liberty2toml_command::toml_form;
 use mintc_cells::Cells;
@@ -35,18 +35,30 @@ fn description_of(alloc: Global, text: &[u8], gates: &[Name]) -> Result<Bytes, U
 }
 
 /// Puts the description of its cells in the place of a library, which is the file of this number, with gates that carry
-/// the clock.
+/// the clock, and gives the library back.
 pub(crate) fn describe(
     alloc: Global,
     at: usize,
     gates: &[Name],
     files: &mut [Bytes],
-) -> Result<(), Unfit>
+) -> Result<Bytes, Unfit>
     requires { at < length files.old }
-    ensures value { IfOk result (λ done. AreDescribed at gates.now files.old files.new) }
+    ensures value { IfOk result (λ library. AreDescribed at gates.now files.old files.new) }
+    ensures library { IfOk result (λ library. library ≡ file_at files.old at) }
     ensures count { length files.new ≡ length files.old }
     ensures unfit { IfErr result (IsUnfitLibrary (file_at files.old at) gates.now) }
 {
-    files[at] = description_of(alloc, files[at].items(), gates)?;
-    Ok(())
+    let text = description_of(alloc, files[at].items(), gates)?;
+    Ok(std::mem::replace(&mut files[at], text))
+}
+
+/// What was taken of files, of which one, of this number, may be a library that was described.
+pub(crate) fn restored(mut files: Vec<Bytes>, at: usize, library: Option<Bytes>) -> Vec<Bytes>
+    requires { at < length files.items }
+    ensures { result.items ≡ restored files.items at library }
+{
+    if let Some(library) = library {
+        files[at] = library;
+    }
+    files
 }

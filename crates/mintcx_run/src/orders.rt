@@ -5,26 +5,39 @@ ghost use Rattle.mintc_command.specs.Answers.{MakesAtMost};
 ghost use Rattle.mintc_command_answers.specs.Commands.{IsNumberInRange, roles_of};
 ghost use Rattle.mintcx_answers.specs.Answers.{IsOnFiles};
 ghost use Rattle.mintcx_requests.specs.Requests.{request_of};
-ghost use Rattle.mintcx_translation.specs.Calls.{cells_place};
+ghost use Rattle.mintcx_translation.specs.Calls.{cells_place, takes_four};
 ghost use Rattle.mintcx_run.specs.Replies.{IsEarlyReply, IsExplanationReply, IsFaultyReply, IsGapReply};
 ghost use Rattle.mintcx_run.specs.Replies.{IsOrderOf, IsOrdered, IsOtherReply, IsPageOf, IsPageOfRefusal};
 ghost use Rattle.mintcx_run.specs.Replies.{NamesNoRefusal, NamesNone};
 
 use crate::projects::settings_of;
 use crate::reply::{Place, Reply};
+use crate::unsaid::ClockText;
 use mintc_command_answers::Status;
 use mintc_text::{Name, Shelf};
 use mintcx_explanations::{explanation_of, topic_number, warning_explanation};
 use mintcx_project::Settings;
 use mintcx_requests::{Design, Given, Manner, Request, Task, request_of};
+use mintcx_sdc::Titles;
 use mintcx_translation::{Call, NoCall, call_of};
 use std::alloc::Global;
 
-/// A call of mintc, and how its answer is given.
+/// What a table is made of: what its answer is about, how the clocks of a schedule beside it are called, where such are
+/// asked for, and the clock description of its files.
+#[derive(Drop)]
+pub(crate) struct Made {
+    pub(crate) subject: Name,
+    pub(crate) titles: Option<Titles>,
+    pub(crate) clock: ClockText,
+}
+
+/// A call of mintc, and how its answer is given; where `made` is there, its first file is a table that is made of others,
+/// and stands in none.
 #[derive(Drop)]
 pub(crate) struct Order {
     pub(crate) call: Call,
     pub(crate) manner: Manner,
+    pub(crate) made: Option<Made>,
 }
 
 /// What is asked, or what is wrong with it.
@@ -51,10 +64,15 @@ fn design_order(
     ensures in_range { IfOk result (λ order. IsNumberInRange order.call.command) }
     ensures on_files { IfOk result (λ order. IsOnFiles order.call.command) }
     ensures library { IfOk result (λ order. order.call.of_library ≡ true → cells_place order.call.command < length order.call.files) }
+    ensures apart { IfOk result (λ order. order.call.apart ≡ true → takes_four order.call.command ≡ true) }
     ensures reply { IfErr result (IsGapReply (Request.OfDesign task design clamp manner)) }
 {
     match call_of(alloc, manner.format, clamp, task, design) {
-        Ok(call) => Ok(Order { call, manner }),
+        Ok(call) => Ok(Order {
+            call,
+            manner,
+            made: None,
+        }),
         Err(NoCall::Missing(gap)) => Err(Reply::message(alloc, Status::Usage, &gap)),
         Err(NoCall::OutOfMemory) => Err(Reply::out_of_memory(alloc)),
     }
@@ -100,6 +118,7 @@ fn order_of(alloc: Global, asked: Request) -> Result<Order, Reply>
     ensures in_range { IfOk result (λ order. IsNumberInRange order.call.command) }
     ensures on_files { IfOk result (λ order. IsOnFiles order.call.command) }
     ensures library { IfOk result (λ order. order.call.of_library ≡ true → cells_place order.call.command < length order.call.files) }
+    ensures apart { IfOk result (λ order. order.call.apart ≡ true → takes_four order.call.command ≡ true) }
     ensures reply { IfErr result (IsOtherReply asked) }
 {
     match asked {
@@ -124,6 +143,7 @@ pub(crate) fn order_for<S: Shelf>(
     ensures in_range { IfOk result (λ order. IsNumberInRange order.call.command) }
     ensures on_files { IfOk result (λ order. IsOnFiles order.call.command) }
     ensures library { IfOk result (λ order. order.call.of_library ≡ true → cells_place order.call.command < length order.call.files) }
+    ensures apart { IfOk result (λ order. order.call.apart ≡ true → takes_four order.call.command ≡ true) }
     ensures reply { IfErr result (IsEarlyReply given (S.files shelf.old)) }
     ensures no_fault { IfErr result (λ reply. reply.status ≢ Status.WriteFault) }
     ensures same { S.files shelf.new ≡ S.files shelf.old }

@@ -32,6 +32,7 @@ A design is four files or one table, named by options or once in mintc.toml:
   sdf = \"delays.sdf\"
   lib = \"cells.lib\"       # or: cells = \"cells.toml\"
   clock = \"clock.toml\"
+  edges = \"apart\"         # or: edges = \"merged\", as where it isn't there
 
 Status:
   0  an answer
@@ -64,6 +65,8 @@ Design:
       --clock-cell <CELL>  With --lib: this gate of one input and one output carries the clock alone
       --clock <FILE>       Phases, bounds and listed ports, in TOML
       --table <FILE>       One table in place of the four files
+      --edges <WORD>       apart takes rising and falling delays each by itself: a cycle never longer [default: merged] \
+      [possible values: merged, apart]
       --clamp-negative     Take 0 for each delay below 0, and warn: safe for setups, not for holds
 
 Answer:
@@ -98,6 +101,8 @@ Design:
       --clock-cell <CELL>  With --lib: this gate of one input and one output carries the clock alone
       --clock <FILE>       Phases, bounds and listed ports, in TOML
       --table <FILE>       One table in place of the four files
+      --edges <WORD>       apart takes rising and falling delays each by itself: a cycle never longer [default: merged] \
+      [possible values: merged, apart]
       --clamp-negative     Take 0 for each delay below 0, and warn: safe for setups, not for holds
 
 Answer:
@@ -132,6 +137,8 @@ Design:
       --clock-cell <CELL>  With --lib: this gate of one input and one output carries the clock alone
       --clock <FILE>       Phases, bounds and listed ports, in TOML
       --table <FILE>       One table in place of the four files
+      --edges <WORD>       apart takes rising and falling delays each by itself: a cycle never longer [default: merged] \
+      [possible values: merged, apart]
       --clamp-negative     Take 0 for each delay below 0, and warn: safe for setups, not for holds
 
 Answer:
@@ -162,6 +169,8 @@ Design:
       --clock-cell <CELL>  With --lib: this gate of one input and one output carries the clock alone
       --clock <FILE>       Phases, bounds and listed ports, in TOML
       --table <FILE>       One table in place of the four files
+      --edges <WORD>       apart takes rising and falling delays each by itself: a cycle never longer [default: merged] \
+      [possible values: merged, apart]
       --clamp-negative     Take 0 for each delay below 0, and warn: safe for setups, not for holds
 
 Answer:
@@ -193,6 +202,8 @@ Design:
       --clock-cell <CELL>  With --lib: this gate of one input and one output carries the clock alone
       --clock <FILE>       Phases, bounds and listed ports, in TOML
       --table <FILE>       One table in place of the four files
+      --edges <WORD>       apart takes rising and falling delays each by itself: a cycle never longer [default: merged] \
+      [possible values: merged, apart]
       --clamp-negative     Take 0 for each delay below 0, and warn: safe for setups, not for holds
 
 Answer:
@@ -226,6 +237,8 @@ Design:
       --clock-cell <CELL>  With --lib: this gate of one input and one output carries the clock alone
       --clock <FILE>       Phases, bounds and listed ports, in TOML
       --table <FILE>       One table in place of the four files
+      --edges <WORD>       apart takes rising and falling delays each by itself: a cycle never longer [default: merged] \
+      [possible values: merged, apart]
       --clamp-negative     Take 0 for each delay below 0, and warn: safe for setups, not for holds
 
 Answer:
@@ -256,6 +269,8 @@ Design:
       --lib <FILE>         The same from a Liberty library
       --clock-cell <CELL>  With --lib: this gate of one input and one output carries the clock alone
       --clock <FILE>       Phases, bounds and listed ports, in TOML
+      --edges <WORD>       apart takes rising and falling delays each by itself: a cycle never longer [default: merged] \
+      [possible values: merged, apart]
       --clamp-negative     Take 0 for each delay below 0, and warn: safe for setups, not for holds
 
 Answer:
@@ -292,6 +307,8 @@ Design:
       --clock-cell <CELL>  With --lib: this gate of one input and one output carries the clock alone
       --clock <FILE>       Phases, bounds and listed ports, in TOML
       --table <FILE>       One table in place of the four files
+      --edges <WORD>       apart takes rising and falling delays each by itself: a cycle never longer [default: merged] \
+      [possible values: merged, apart]
       --clamp-negative     Take 0 for each delay below 0, and warn: safe for setups, not for holds
 
 Answer:
@@ -326,6 +343,8 @@ Design:
       --clock-cell <CELL>  With --lib: this gate of one input and one output carries the clock alone
       --clock <FILE>       Phases, bounds and listed ports, in TOML
       --table <FILE>       One table in place of the four files
+      --edges <WORD>       apart takes rising and falling delays each by itself: a cycle never longer [default: merged] \
+      [possible values: merged, apart]
       --clamp-negative     Take 0 for each delay below 0, and warn: safe for setups, not for holds
 
 Answer:
@@ -361,6 +380,8 @@ Design:
       --clock-cell <CELL>  With --lib: this gate of one input and one output carries the clock alone
       --clock <FILE>       Phases, bounds and listed ports, in TOML
       --table <FILE>       One table in place of the four files
+      --edges <WORD>       apart takes rising and falling delays each by itself: a cycle never longer [default: merged] \
+      [possible values: merged, apart]
       --clamp-negative     Take 0 for each delay below 0, and warn: safe for setups, not for holds
 
 Answer:
@@ -391,6 +412,8 @@ Design:
       --clock-cell <CELL>  With --lib: this gate of one input and one output carries the clock alone
       --clock <FILE>       Phases, bounds and listed ports, in TOML
       --table <FILE>       One table in place of the four files
+      --edges <WORD>       apart takes rising and falling delays each by itself: a cycle never longer [default: merged] \
+      [possible values: merged, apart]
       --clamp-negative     Take 0 for each delay below 0, and warn: safe for setups, not for holds
 
 Answer:

@@ -17,6 +17,10 @@ const FILES: &str =
 const CORNERS: &str =
     "[design]\nnetlist = \"n.v\"\nsdf = [\"hot.sdf\", \"cold.sdf\"]\ncells = \"c.toml\"\nclock = \"k.toml\"\n";
 
+/// A project file with edges apart.
+const EDGES: &str =
+    "[design]\nnetlist = \"n.v\"\nsdf = \"d.sdf\"\nlib = \"c.lib\"\nclock = \"k.toml\"\nedges = \"apart\"\n";
+
 /// Words, the project file's path and text, and the request or the message.
 const ROWS: &[(&str, &str, &str, &str)] = &[
     (
@@ -45,6 +49,24 @@ const ROWS: &[(&str, &str, &str, &str)] = &[
         "mintc.toml",
         FILES,
         "optimise - 0; table t; false; Text Ps 10 - false Full Auto",
+    ),
+    (
+        "mintcx safe",
+        "mintc.toml",
+        EDGES,
+        "safe; n.v sdf d.sdf lib c.lib k.toml apart; false; Text Auto 10 - false Full Auto",
+    ),
+    (
+        "mintcx safe --edges merged",
+        "mintc.toml",
+        EDGES,
+        "safe; n.v sdf d.sdf lib c.lib k.toml; false; Text Auto 10 - false Full Auto",
+    ),
+    (
+        "mintcx safe --table t",
+        "mintc.toml",
+        EDGES,
+        "safe; table t; false; Text Auto 10 - false Full Auto",
     ),
     (
         "mintcx corners",

@@ -2,6 +2,7 @@
 
 use mintc_text::{Name, Names};
 use mintcx_manners::Limit;
+use mintcx_project::Edges;
 use mintcx_requests::{Cells, Design, Manner, Request, Task};
 use std::alloc::{AllocError, Global};
 use std::test::Fail;
@@ -69,6 +70,7 @@ fn design(alloc: Global, design: &Design) -> Result<String, Fail> {
             delays,
             cells,
             clock,
+            edges,
         } => {
             let delays = names(alloc, delays)?;
             let cells = match cells {
@@ -78,7 +80,15 @@ fn design(alloc: Global, design: &Design) -> Result<String, Fail> {
                     format!(in alloc; "lib {}{gates}", name(file))?
                 }
             };
-            Ok(format!(in alloc; "{} sdf{delays} {cells} {}", name(netlist), name(clock))?)
+            let apart = match edges {
+                Edges::Merged => "",
+                Edges::Apart => " apart",
+            };
+            Ok(format!(in alloc;
+                "{} sdf{delays} {cells} {}{apart}",
+                name(netlist),
+                name(clock)
+            )?)
         }
     }
 }

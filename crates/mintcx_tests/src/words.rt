@@ -46,6 +46,26 @@ const ROWS: &[(&str, &str)] = &[
         "mintcx table --netlist n.v --sdf d.sdf --lib c.lib --clock k.toml --clamp-negative -o n.table",
         "table; n.v sdf d.sdf lib c.lib k.toml; true; Text Auto 10 n.table false Full Auto",
     ),
+    (
+        "mintcx table --netlist n.v --sdf d.sdf --lib c.lib --clock k.toml --edges apart",
+        "table; n.v sdf d.sdf lib c.lib k.toml apart; false; Text Auto 10 - false Full Auto",
+    ),
+    (
+        "mintcx corners --netlist n.v --sdf hot.sdf --sdf cold.sdf --cells c.toml --clock k.toml --edges merged",
+        "corners; n.v sdf hot.sdf cold.sdf cells c.toml k.toml; false; Text Auto 10 - false Full Auto",
+    ),
+    (
+        "mintcx corners --netlist n.v --sdf hot.sdf --sdf cold.sdf --cells c.toml --clock k.toml --edges apart",
+        "'--edges apart' is of one delay file; give '--edges merged' for corners",
+    ),
+    (
+        "mintcx safe --table t --edges apart",
+        "'--edges apart' is of four files, and a table is named: its edges are as they are",
+    ),
+    (
+        "mintcx safe --table t --edges merged",
+        "safe; table t; false; Text Auto 10 - false Full Auto",
+    ),
     ("mintcx explain same-phase", "explain same-phase"),
     (
         "mintcx safe",

@@ -10,6 +10,8 @@ use Rattle.mintc_command_answers.specs.declared.command.Source.{Source}
 use Rattle.mintc_command_answers.specs.declared.command.Source.TheVariants as source
 use Rattle.mintcx_manners.specs.declared.manners.Format.{Format}
 use Rattle.mintcx_manners.specs.declared.manners.Format.TheVariants as format
+use Rattle.mintcx_project.specs.declared.edges.Edges.{Edges}
+use Rattle.mintcx_project.specs.declared.edges.Edges.TheVariants as edges
 use Rattle.mintcx_requests.specs.Requests.{Text, is_empty}
 use Rattle.mintcx_requests.specs.declared.requests.Cells.{Cells}
 use Rattle.mintcx_requests.specs.declared.requests.Cells.TheVariants as cells
@@ -45,12 +47,12 @@ gates_in (cells.Library file gates) = gates
 -- the same of a design
 abbrev pub gates_of : Design → List Text
 gates_of (design.Table table) = []
-gates_of (design.Files netlist delays kind clock) = gates_in kind
+gates_of (design.Files netlist delays kind clock made) = gates_in kind
 
 -- the files of a design, in mintc's order: of `corners` the delays come last
 abbrev pub design_files : Bool → Design → List Text
 design_files for_corners (design.Table table) = table ∷ []
-design_files for_corners (design.Files netlist delays kind clock) = if for_corners
+design_files for_corners (design.Files netlist delays kind clock made) = if for_corners
     then (netlist ∷ cells_file kind ∷ clock ∷ []) ++ delays
     else ((netlist ∷ []) ++ delays) ++ (cells_file kind ∷ clock ∷ [])
 
@@ -123,7 +125,7 @@ source_of (cells.Library file gates) = if is_empty gates then source.Liberty els
 -- the command of a job on a design
 abbrev pub job_on : Job → Design → Command
 job_on work (design.Table table) = OfDesign work source.Table
-job_on work (design.Files netlist delays kind clock) = OfDesign work (source_of kind)
+job_on work (design.Files netlist delays kind clock made) = OfDesign work (source_of kind)
 
 -- the command of so many corners
 abbrev pub corners_with : ℕ → Result Command Gap
@@ -132,11 +134,11 @@ corners_with count = if nat_le 2 count && nat_le count 4 then Ok (Corners count)
 -- the command of a design with several delay files
 abbrev pub corners_on : Design → Result Command Gap
 corners_on (design.Table table) = Err gap.Misfit
-corners_on (design.Files netlist delays kind clock) = corners_with (length delays)
+corners_on (design.Files netlist delays kind clock made) = corners_with (length delays)
 
 -- the cells of a design are those of a library
 abbrev pub has_library : Design → Bool
-has_library (design.Files netlist delays (cells.Library file gates) clock) = true
+has_library (design.Files netlist delays (cells.Library file gates) clock made) = true
 has_library files = false
 
 -- the command is asked of a description of cells
@@ -148,6 +150,26 @@ takes_description command = false
 -- the cells of a library are described for the command
 abbrev pub of_library : Command → Design → Bool
 of_library command files = takes_description command && has_library files
+
+-- what is made of the edges of a design; a table has them as they are
+abbrev pub edges_of : Design → Edges
+edges_of (design.Table table) = edges.Merged
+edges_of (design.Files netlist delays kind clock made) = made
+
+-- the command is asked of one design of four files
+abbrev pub takes_four : Command → Bool
+takes_four (OfDesign work source.Files) = true
+takes_four (OfDesign work source.Liberty) = true
+takes_four command = false
+
+-- edges are kept apart
+abbrev pub are_apart : Edges → Bool
+are_apart edges.Merged = false
+are_apart edges.Apart = true
+
+-- the command is asked of a design of four files with edges apart
+abbrev pub is_apart : Command → Design → Bool
+is_apart command files = takes_four command && are_apart (edges_of files)
 
 -- the number of the file of the cells among those of a command that is asked of a description, counted from 0
 abbrev pub cells_place : Command → ℕ
@@ -227,6 +249,7 @@ call_on None told clamp what files = and_then (command_for what files) (λ comma
   of_library = of_library command files;
   gates = gates_of files;
   clamp = clamp;
+  apart = is_apart command files;
   files = files_of what files;
   certificate = certificate_file what;
 }))

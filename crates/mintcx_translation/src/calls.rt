@@ -7,10 +7,12 @@ ghost use Rattle.mintcx_translation.specs.Calls.{cells_place, command_for, corne
 ghost use Rattle.mintcx_translation.specs.Calls.{form_gap, gates_in, gates_of, has_data, has_library, is_corners};
 ghost use Rattle.mintcx_translation.specs.Calls.{is_fitting, job_of, job_on, object_of};
 ghost use Rattle.mintcx_translation.specs.Calls.{own_file, plain_gap, rows_of, source_of, takes_description, told_in};
+ghost use Rattle.mintcx_translation.specs.Calls.{is_apart, takes_four};
 
 use mintc_command_answers::{Command, Job, Source};
 use mintc_text::{Name, Names, OutOfMemory};
 use mintcx_manners::Format;
+use mintcx_project::Edges;
 use mintcx_requests::{Cells, Design, Task};
 use std::alloc::Global;
 
@@ -47,8 +49,9 @@ pub enum Aspect {
 
 /// A command of mintc, what of it is told, and the names of its files, in their order. Where `of_library` is set, the
 /// file of the cells is a Liberty library, and the command is asked of a description of its cells, of which these gates
-/// carry the clock alone. Where `clamp` is set, 0 is taken for each delay below 0. Where `certificate` names a file, the
-/// certificate of `optimise` is written to it.
+/// carry the clock alone. Where `clamp` is set, 0 is taken for each delay below 0. Where `apart` is set, the command is
+/// asked of the table of the design of four files with edges apart. Where `certificate` names a file, the certificate of
+/// `optimise` is written to it.
 #[derive(Debug, Drop)]
 pub struct Call {
     pub command: Command,
@@ -56,6 +59,7 @@ pub struct Call {
     pub of_library: bool,
     pub gates: Names,
     pub clamp: bool,
+    pub apart: bool,
     pub files: Names,
     pub certificate: Option<Name>,
 }
@@ -206,6 +210,7 @@ fn design_files(alloc: Global, for_corners: bool, design: Design) -> Result<Sour
             delays,
             cells,
             clock,
+            edges: _,
         } => {
             let CellsFile { file, gates } = cells_file(alloc, cells);
             let files = all_files(alloc, for_corners, netlist, delays, file, clock)?;
@@ -393,6 +398,30 @@ fn takes_description(command: Command) -> bool
     }
 }
 
+/// Whether a command is asked of one design of four files.
+fn takes_four(command: Command) -> bool
+    ensures { result ≡ takes_four command }
+{
+    match command {
+        Command::OfDesign { source, .. } => matches!(source, Source::Files | Source::Liberty),
+        Command::Corners { .. } | Command::Sample { .. } => false,
+    }
+}
+
+/// Whether a command is asked of a design of four files with edges apart.
+fn is_apart(command: Command, design: &Design) -> bool
+    ensures { result ≡ is_apart command design.now }
+{
+    takes_four(command)
+        && matches!(
+            design,
+            Design::Files {
+                edges: Edges::Apart,
+                ..
+            }
+        )
+}
+
 /// The number of the file of the cells among those of a command that is asked of a description.
 pub fn cells_place(command: Command) -> usize
     ensures { result ≡ cells_place command }
@@ -536,6 +565,7 @@ pub fn call_of(
     ensures in_range { IfOk result (λ call. IsNumberInRange call.command) }
     ensures files { IfOk result (λ call. (number : ℕ) → call.command ≢ Command.Sample number) }
     ensures library { IfOk result (λ call. call.of_library ≡ true → cells_place call.command < length call.files) }
+    ensures apart { IfOk result (λ call. call.apart ≡ true → takes_four call.command ≡ true) }
 {
     if let Some(gap) = form_gap(format, &task) {
         return Err(NoCall::Missing(gap));
@@ -543,6 +573,7 @@ pub fn call_of(
     let aspect = told_in(format, &task);
     let command = command_for(&task, &design)?;
     let of_library = takes_description(command) && has_library(&design);
+    let apart = is_apart(command, &design);
     let for_corners = is_corners(&task);
     let beside = beside_of(task);
     let Sources { files, gates } = design_files(alloc, for_corners, design)?;
@@ -554,6 +585,7 @@ pub fn call_of(
             of_library,
             gates,
             clamp,
+            apart,
             files,
             certificate: beside.certificate,
         })

@@ -45,10 +45,13 @@ front_rules asked = record (option_rule (codes "project")) { short = Some 112 } 
     ∷ delays_rule asked ∷ option_rule (codes "cells")
     ∷ option_rule (codes "lib") ∷ list_rule (codes "clock-cell") ∷ option_rule (codes "clock") ∷ []
 
+-- the options of how delays are taken, and edges
+abbrev pub taking_rules : Choices → List Rule
+taking_rules words = choice_rule (codes "edges") (codes "merged") words.edges ∷ flag_rule (codes "clamp-negative") ∷ []
+
 -- the last options that name a design
-abbrev pub back_rules : Asked → List Rule
-back_rules asked = if has_table asked then option_rule (codes "table") ∷ flag_rule (codes "clamp-negative") ∷ []
-    else flag_rule (codes "clamp-negative") ∷ []
+abbrev pub back_rules : Choices → Asked → List Rule
+back_rules words asked = if has_table asked then option_rule (codes "table") ∷ taking_rules words else taking_rules words
 
 -- the options of the answer's form and unit
 abbrev pub form_rules : Choices → List Rule
@@ -95,8 +98,8 @@ abbrev pub with_rules : App → List Rule → App
 with_rules a rules = fold with_rule a rules
 
 -- a command with the options of a design
-abbrev pub with_design : App → Asked → App
-with_design a asked = with_rules (with_rules a (front_rules asked)) (back_rules asked)
+abbrev pub with_design : Choices → App → Asked → App
+with_design words a asked = with_rules (with_rules a (front_rules asked)) (back_rules words asked)
 
 -- a command with the options of an answer
 abbrev pub with_answer : Choices → App → Asked → App
@@ -106,7 +109,7 @@ with_answer words a asked =
 -- a command with the options that most have; an explanation needs none
 abbrev pub common : Choices → Asked → App
 common words Explain = bare Explain
-common words asked = with_answer words (with_design (bare asked) asked) asked
+common words asked = with_answer words (with_design words (bare asked) asked) asked
 
 -- one of the commands
 abbrev pub command_of : Choices → Asked → App
@@ -140,6 +143,7 @@ texts words = map (λ w. w.now) words.now
 pub record HasWords (words : Choices) : Type 0 where
   pub formats : texts words.formats ≡ codes "text" ∷ codes "plain" ∷ codes "json" ∷ codes "csv" ∷ []
   pub units : texts words.units ≡ codes "auto" ∷ codes "fs" ∷ codes "ps" ∷ codes "ns" ∷ []
+  pub edges : texts words.edges ≡ codes "merged" ∷ codes "apart" ∷ []
   pub errors : texts words.errors ≡ codes "full" ∷ codes "short" ∷ []
   pub colors : texts words.colors ≡ codes "auto" ∷ codes "always" ∷ codes "never" ∷ []
 

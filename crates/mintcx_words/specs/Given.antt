@@ -7,6 +7,8 @@ use Rattle.clap.specs.declared.parser.matches.ValueSource.{ValueSource}
 use Rattle.clap.specs.declared.parser.matches.ValueSource.TheVariants.{DefaultValue, CommandLine}
 use Rattle.mintcx_requests.specs.declared.commands.Asked.{Asked}
 use Rattle.mintcx_manners.specs.declared.manners.TimeUnit.{TimeUnit}
+use Rattle.mintcx_project.specs.Edges.{edges_of}
+use Rattle.mintcx_project.specs.declared.edges.Edges.{Edges}
 use Rattle.mintcx_project.specs.declared.sources.Sources.{Sources}
 use Rattle.mintcx_requests.specs.declared.given.MannerWords.{MannerWords}
 use Rattle.mintcx_requests.specs.declared.given.Particulars.{Particulars}
@@ -40,6 +42,16 @@ unit_from (Some CommandLine) word = Some (unit_of word)
 abbrev pub unit_at : List Row → Option TimeUnit
 unit_at rows = unit_from (source_at rows (codes "unit")) (chosen_at rows (codes "unit"))
 
+-- what is said of edges, where the words say it
+abbrev pub edges_from : Option ValueSource → Text → Option Edges
+edges_from None word = None
+edges_from (Some DefaultValue) word = None
+edges_from (Some CommandLine) word = Some (edges_of word)
+
+-- what the words say of edges, where they do
+abbrev pub edges_at : List Row → Option Edges
+edges_at rows = edges_from (source_at rows (codes "edges")) (chosen_at rows (codes "edges"))
+
 -- the parts of a design, each by its own option
 abbrev pub sources_at : List Row → Sources
 sources_at rows = record {
@@ -50,6 +62,7 @@ sources_at rows = record {
   clock_cells = values_at rows (codes "clock-cell");
   clock = first_of (codes "clock") rows;
   table = first_of (codes "table") rows;
+  edges = edges_at rows;
 }
 
 -- how the answer is to be given, each part by its own option

@@ -17,6 +17,7 @@ use std::alloc::{AllocError, Global};
 pub(crate) struct Choices<'a> {
     pub(crate) formats: &'a [&'a str],
     pub(crate) units: &'a [&'a str],
+    pub(crate) edges: &'a [&'a str],
     pub(crate) errors: &'a [&'a str],
     pub(crate) colors: &'a [&'a str],
 }
@@ -30,6 +31,7 @@ const AFTER_HELP: &str =
   sdf = \"delays.sdf\"
   lib = \"cells.lib\"       # or: cells = \"cells.toml\"
   clock = \"clock.toml\"
+  edges = \"apart\"         # or: edges = \"merged\", as where it isn't there
 
 Status:
   0  an answer
@@ -53,6 +55,7 @@ pub(crate) fn make_choices<'a>() -> Choices<'a>
     Choices {
         formats: &["text", "plain", "json", "csv"],
         units: &["auto", "fs", "ps", "ns"],
+        edges: &["merged", "apart"],
         errors: &["full", "short"],
         colors: &["auto", "always", "never"],
     }
@@ -181,9 +184,22 @@ fn front_args<'a>(alloc: Global, asked: Asked) -> Result<Vec<Arg<'a>>, AllocErro
 }
 
 /// The last options that name a design.
-fn back_args<'a>(alloc: Global, asked: Asked) -> Result<Vec<Arg<'a>>, AllocError>
-    ensures { IfOk result (λ v. AreRules (back_rules asked) v.items) }
+fn back_args<'a>(
+    alloc: Global,
+    words: Choices<'a>,
+    asked: Asked,
+) -> Result<Vec<Arg<'a>>, AllocError>
+    ensures { IfOk result (λ v. AreRules (back_rules words.entry asked) v.items) }
 {
+    let edges = choice(
+        alloc,
+        "edges",
+        "WORD",
+        words.edges,
+        "merged",
+        "apart takes rising and falling delays each by itself: a cycle never longer",
+    )
+    .help_heading("Design");
     let clamp = flag(
         alloc,
         "clamp-negative",
@@ -197,9 +213,9 @@ fn back_args<'a>(alloc: Global, asked: Asked) -> Result<Vec<Arg<'a>>, AllocError
             "FILE",
             "One table in place of the four files",
         );
-        Ok(vec![in alloc; table, clamp]?)
+        Ok(vec![in alloc; table, edges, clamp]?)
     } else {
-        Ok(vec![in alloc; clamp]?)
+        Ok(vec![in alloc; edges, clamp]?)
     }
 }
 
@@ -418,13 +434,14 @@ fn bare<'a>(alloc: Global, asked: Asked) -> Result<Command<'a>, AllocError>
 fn with_design<'a>(
     alloc: Global,
     command: Command<'a>,
+    words: Choices<'a>,
     asked: Asked,
 ) -> Result<Command<'a>, AllocError>
     requires { (out-Command command).has_globals ≡ false }
-    ensures { IfOk result (IsCommandLine (with_design (app_of command.entry) asked)) }
+    ensures { IfOk result (IsCommandLine (with_design words.entry (app_of command.entry) asked)) }
 {
     let command = with_args(command, front_args(alloc, asked)?)?;
-    with_args(command, back_args(alloc, asked)?)
+    with_args(command, back_args(alloc, words, asked)?)
 }
 
 /// A command with the options of an answer.
@@ -450,7 +467,7 @@ fn common<'a>(alloc: Global, words: Choices<'a>, asked: Asked) -> Result<Command
     match asked {
         Asked::Explain => Ok(command),
         _ => {
-            let command = with_design(alloc, command, asked)?;
+            let command = with_design(alloc, command, words, asked)?;
             with_answer(alloc, command, words, asked)
         }
     }

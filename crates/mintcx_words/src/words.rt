@@ -5,8 +5,8 @@ ghost use Rattle.std.specs.Prelude.{◌≡◌, IfOk, map, option_and_then, strin
 ghost use Rattle.clap.specs.Words.{App, found_of, first_of, kind_of, rows_of, subcommand_rows_of};
 ghost use Rattle.mintcx_words.specs.CommandLine.{IsProgram, program_of};
 ghost use Rattle.mintcx_requests.specs.Commands.{command_named};
-ghost use Rattle.mintcx_words.specs.Given.{chosen_at, flag_at, values_at, unit_at, sources_at, manner_at};
-ghost use Rattle.mintcx_words.specs.Given.{particulars_at, given_by, given_of};
+ghost use Rattle.mintcx_words.specs.Given.{chosen_at, edges_at, flag_at, values_at, unit_at, sources_at};
+ghost use Rattle.mintcx_words.specs.Given.{manner_at, particulars_at, given_by, given_of};
 ghost use Rattle.mintcx_words.specs.Misread.{IsMisread, IsReading};
 
 use crate::command_line::{Choices, make_choices, parse};
@@ -15,7 +15,7 @@ use clap::parser::ValueSource;
 use clap::{ArgMatches, Error};
 use mintc_text::{Name, Names, OutOfMemory};
 use mintcx_manners::{Color, Detail, Format, TimeUnit};
-use mintcx_project::Sources;
+use mintcx_project::{Edges, Sources};
 use mintcx_requests::{Asked, COMMANDS, Given, MannerWords, Particulars};
 use std::alloc::Global;
 
@@ -93,6 +93,16 @@ fn unit_at(matches: &ArgMatches<'_>) -> Option<TimeUnit>
     }
 }
 
+/// What the words say of edges.
+fn edges_at(matches: &ArgMatches<'_>) -> Option<Edges>
+    ensures { result ≡ edges_at (rows_of (found_of matches.now)) }
+{
+    match matches.value_source("edges") {
+        Some(ValueSource::CommandLine) => Some(Edges::of(chosen_at(matches, "edges").as_bytes())),
+        _ => None,
+    }
+}
+
 /// The parts of a design that the words name.
 fn sources_at(alloc: Global, matches: &ArgMatches<'_>) -> Result<Sources, OutOfMemory>
     ensures { IfOk result (λ s. s ≡ sources_at (rows_of (found_of matches.now))) }
@@ -105,6 +115,7 @@ fn sources_at(alloc: Global, matches: &ArgMatches<'_>) -> Result<Sources, OutOfM
         clock_cells: values_at(alloc, matches, "clock-cell")?,
         clock: value_at(alloc, matches, "clock")?,
         table: value_at(alloc, matches, "table")?,
+        edges: edges_at(matches),
     })
 }
 

@@ -1,0 +1,2 @@
+-- What contracts of public calls say:
+pub mod Apart
