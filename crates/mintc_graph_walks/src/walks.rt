@@ -37,8 +37,8 @@ pub struct Tree {
 /// that they found before passes went by turns.
 const ORDINARY_PASSES: u64 = 32;
 
-/// The direction of the pass with which so many are taken. Arcs that lead back along a long chain raise nodes of it anew
-/// in each pass upwards, so that few of its arcs are the ones that raised their ends last; every second pass goes
+/// The direction of the pass with which so many are taken. Arcs that lead back along a long chain raise nodes of it
+/// anew in each pass upwards, so that few of its arcs are the ones that raised their ends last; every second pass goes
 /// downwards once a search is long.
 fn direction_of(taken: u64) -> Direction {
     if taken > ORDINARY_PASSES && taken % 2 == 1 {

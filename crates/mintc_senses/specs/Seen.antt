@@ -1,5 +1,6 @@
 -- What the code holds, as the definitions see it.
-use Rattle.std.specs.Prelude.{ℕ, if◌then◌else◌, List, map, drop, slice_range, Option, Some, None, option_map, bytes_eq, Vec}
+use Rattle.std.specs.Prelude.{ℕ, if◌then◌else◌, List, map, drop, slice_range, Option, Some, None, option_map}
+use Rattle.std.specs.Prelude.{bytes_eq, Vec}
 use Rattle.std.specs.Global.{Global}
 use Rattle.mintc_senses_expressions.specs.declared.transitions.Transitions.{Transitions}
 use Rattle.mintc_senses_expressions.specs.Transitions.{all_transitions}

@@ -1,9 +1,11 @@
 -- The senses of a library's cells: which edges of an input may make which edges of an output.
-use Rattle.std.specs.Prelude.{ℕ, Bool, true, false, not, ◌&&◌, ◌||◌, if◌then◌else◌, List, [], ◌∷◌, map, Option, Some, None}
+use Rattle.std.specs.Prelude.{ℕ, Bool, true, false, not, ◌&&◌, ◌||◌, if◌then◌else◌, List, [], ◌∷◌, map}
+use Rattle.std.specs.Prelude.{Option, Some, None}
 use Rattle.std.specs.Prelude.{option_and_then, option_map, unwrap_or, codes, bytes_eq, slice_index_or}
 use Rattle.std.specs.Option.{option_or}
 use Rattle.mintc_senses_expressions.specs.declared.transitions.Transitions.{Transitions}
-use Rattle.mintc_senses_expressions.specs.Transitions.{no_transitions, same_edges, other_edges, all_transitions, together}
+use Rattle.mintc_senses_expressions.specs.Transitions.{no_transitions, same_edges, other_edges, all_transitions}
+use Rattle.mintc_senses_expressions.specs.Transitions.{together}
 use Rattle.mintc_senses_expressions.specs.Transitions.{turned}
 use Rattle.mintc_senses_expressions.specs.Reading.{some_of, function_sense}
 use Rattle.mintc_cells.specs.declared.cell.Cell.{Cell}

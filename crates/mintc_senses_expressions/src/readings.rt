@@ -1,6 +1,6 @@
 //! Reading an expression symbol by symbol: the sense of one name in it, and no tree.
-ghost use Rattle.std.specs.Prelude.{◌≡◌, ◌<◌, ◌≤◌, ◌+◌, ◌∷◌, List, IfOk, IfSome, MatchBool, MatchOption, Some, None, length};
-ghost use Rattle.std.specs.Prelude.{slice_index};
+ghost use Rattle.std.specs.Prelude.{◌≡◌, ◌<◌, ◌≤◌, ◌+◌, ◌∷◌, List, IfOk, IfSome, MatchBool, MatchOption, Some, None};
+ghost use Rattle.std.specs.Prelude.{length, slice_index};
 ghost use Rattle.mintc_senses_expressions.specs.Expressions.{Expression, CoverChanges};
 ghost use Rattle.mintc_senses_expressions.specs.Symbols.{Symbol, ended, behind};
 ghost use Rattle.mintc_senses_expressions.specs.Grammar.{IsExpressionOf};

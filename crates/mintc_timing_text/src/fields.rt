@@ -55,7 +55,7 @@ fn begins_with(rest: &[u8], word: &[u8]) -> bool
 }
 
 /// Whether a word is a name: 1 to 1,000 bytes from 33 to 126.
-fn is_name(word: &[u8]) -> bool
+pub fn is_name(word: &[u8]) -> bool
     ensures { MatchBool result (IsName word.now) (IsName word.now → ⊥) }
 {
     if word.is_empty() || word.len() > 1_000 {

@@ -11,7 +11,7 @@ mod table_lines;
 mod table_text;
 mod text_laws;
 
-pub use fields::Fields;
+pub use fields::{Fields, is_name};
 pub use reader::Reader;
 pub use schedule_text::{read_schedule, schedule_lines};
 pub use table_text::read_table;

@@ -218,8 +218,8 @@ abbrev pub IsSafeAnswer : Timing → Aspect → View → Status → List ℕ →
 IsSafeAnswer t told view status text = (c : SafeCertificate) × IsSafeOptimum t c × (status ≡ safe_status c)
     × ((least : Certificate) × IsOptimum t least × IsTextOfSafe t told c (least_cycle least) view text)
 
--- the text of the slacks at the least cycle time, a row for each pair, also as a table or an object, or a count of pairs
--- for each bar
+-- the text of the slacks at the least cycle time, a row for each pair, also as a table or an object, or a count of
+-- pairs for each bar
 abbrev pub IsTextOfSlacks : Timing → Aspect → View → Slacks → List ℕ → Type 0
 IsTextOfSlacks t aspect.Histogram view x text = IsHistogramText view x text
 IsTextOfSlacks t aspect.Rows view x text = IsSlackTable t x text

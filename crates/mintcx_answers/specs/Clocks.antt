@@ -177,8 +177,8 @@ AreBeside most stated text titles view files told = (t : Timing) × Gives most s
     × ((clock : Clock) × IsClockBeside text t clock
     × IsOfText most stated t clock (own_file source.Table files) titles view told)
 
--- The clocks of a schedule as SDC, on the bytes of a table and of the file behind it, of which none is refused, with the
--- clock description beside them.
+-- The clocks of a schedule as SDC, on the bytes of a table and of the file behind it, of which none is refused, with
+-- the clock description beside them.
 abbrev pub HasClocksBeside : Most → Stated → List ℕ → Titles → View → List (List ℕ) → Clocks → Type 0
 HasClocksBeside most stated text titles view files told =
     AreShort most files × AreBeside most stated text titles view files told

@@ -120,7 +120,8 @@ fn own_delay(flat: &Flat, travel: Travel, number: u32) -> i64
     }
 }
 
-/// What the bit that an arc on the way to an element enters is called: its own name, or where it has none the element's.
+/// What the bit that an arc on the way to an element enters is called: its own name, or where it has none the
+/// element's.
 fn end_name(flat: &Flat, element: u32, number: u32) -> &[u8]
     requires { element < element_count flat.now }
 {

@@ -110,9 +110,9 @@ fn joint_csv(
     ring_csv(alloc, systems, &ring)
 }
 
-/// The table `corner,from,delay,cycles,to` of the chain of a certificate of two to four corners, from its beginning: the
-/// number of each member's corner, counted from 1, or 0 of the clock, and how many whole femtoseconds it asks for, in how
-/// many cycles, by its own corner's delays.
+/// The table `corner,from,delay,cycles,to` of the chain of a certificate of two to four corners, from its beginning:
+/// the number of each member's corner, counted from 1, or 0 of the clock, and how many whole femtoseconds it asks for,
+/// in how many cycles, by its own corner's delays.
 pub fn corners_csv(
     alloc: Global,
     systems: &[System],

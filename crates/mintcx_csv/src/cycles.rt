@@ -107,8 +107,8 @@ fn phases_csv(alloc: Global, flat: &Flat, schedule: &Schedule) -> Result<Bytes, 
     text_of(records)
 }
 
-/// The table `phase,start,width` of the phases of a right schedule, in whole femtoseconds, or that of `hops_csv` for the
-/// chain that forbids a cycle time.
+/// The table `phase,start,width` of the phases of a right schedule, in whole femtoseconds, or that of `hops_csv` for
+/// the chain that forbids a cycle time.
 pub fn cycle_csv(alloc: Global, system: &System, found: &AtCycle) -> Result<Bytes, OutOfMemory>
     requires found { (cycle : ℕ) × IsAtCycle system.now cycle found.now }
     requires sayable { IsSayable found.now }

@@ -100,14 +100,16 @@ pub record AreFirst (design : Design) (s : Schedule) (stages : List Stage) (rows
     : Type 0 where
   pub each : All IsLane shown.lanes.items
   pub count : length shown.lanes.items ≡ drawn_count stages
-  pub facts : map lane_facts shown.lanes.items ≡ map (facts_at design s.den stages rows) (range_with_len 0 (drawn_count stages))
+  pub facts : map lane_facts shown.lanes.items
+    ≡ map (facts_at design s.den stages rows) (range_with_len 0 (drawn_count stages))
   pub times : times_of s.cycle shown.lanes.items ≡ first_times design s stages rows (drawn_count stages)
   pub least : 138 ≤ shown.below
   pub most : shown.below ≤ 1818
 
 -- These rows with one more that shows these times, and how high they end then.
 pub record HasOneMore (cycle : ℤ) (times : List ℤ) (old new : Lanes) : Type 0 where
-  pub more : (lane : Lane) × IsLane lane × (lane_times cycle lane ≡ times) × (new.lanes.items ≡ old.lanes.items ++ lane ∷ [])
+  pub more : (lane : Lane) × IsLane lane × (lane_times cycle lane ≡ times)
+    × (new.lanes.items ≡ old.lanes.items ++ lane ∷ [])
   pub least : old.below ≤ new.below
   pub most : new.below ≤ old.below + 58
 

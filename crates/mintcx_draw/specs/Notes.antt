@@ -1,5 +1,6 @@
 -- What is noted of rows.
-use Rattle.std.specs.Prelude.{ℕ, ◌+◌, ◌-◌, ℤ, pos, List, [], ◌++◌, codes, decimal, slice_index_or, if◌then◌else◌, int_lt}
+use Rattle.std.specs.Prelude.{ℕ, ◌+◌, ◌-◌, ℤ, pos, List, [], ◌++◌, codes, decimal, slice_index_or}
+use Rattle.std.specs.Prelude.{if◌then◌else◌, int_lt}
 use Rattle.mintc_timing.specs.declared.clocking.Schedule.{Schedule}
 use Rattle.mintc_timing.specs.declared.link.LinkKind.{LinkKind}
 use Rattle.mintc_timing.specs.declared.link.LinkKind.TheVariants as link

@@ -1,5 +1,6 @@
 -- The bars of a histogram in a picture.
-use Rattle.std.specs.Prelude.{ℕ, ◌==◌, ◌≤◌, ◌+◌, ◌*◌, ◌/◌, ◌%◌, ◌^◌, max, pos, List, [], ◌∷◌, ◌++◌, codes, decimal, None, if◌then◌else◌}
+use Rattle.std.specs.Prelude.{ℕ, ◌==◌, ◌≤◌, ◌+◌, ◌*◌, ◌/◌, ◌%◌, ◌^◌, max, pos, List, [], ◌∷◌, ◌++◌}
+use Rattle.std.specs.Prelude.{codes, decimal, None, if◌then◌else◌}
 use Rattle.mintc_text.specs.declared.limits.TheConstants.{MOST_PAIRS}
 use Rattle.mintcx_amounts.specs.declared.unit.Unit.{Unit}
 use Rattle.mintcx_picture.specs.declared.colours.Colour.{Colour}
@@ -76,7 +77,8 @@ count_colour count = if count == 0 then Soft else Ink
 
 abbrev pub count_form : Bar → List ℕ → Form
 count_form bar count =
-    words_form (at (208 + bar_width bar.fullest bar.count) (top_of bar.number + 17)) count 12 (count_colour bar.count) Start
+    words_form (at (208 + bar_width bar.fullest bar.count) (top_of bar.number + 17)) count 12
+        (count_colour bar.count) Start
 
 -- a bar with its ground, its name and the number of its pairs
 abbrev pub bar_forms : Unit → Bar → List Form

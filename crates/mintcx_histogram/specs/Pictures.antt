@@ -35,7 +35,8 @@ IsOfStep unit step extra text = (head : Head) × (top : List Form) × (foot : Li
 
 -- The same of a least cycle, by the least step of which twelve are as much as the greatest slack.
 abbrev pub IsSlackPicture : Ratio → List ℤ → View → List ℕ → Type 0
-IsSlackPicture cycle extra view text = (n : ℕ) × IsStep (most_of extra) n × IsOfStep (unit_for view.unit cycle) (step_at n) extra text
+IsSlackPicture cycle extra view text =
+    (n : ℕ) × IsStep (most_of extra) n × IsOfStep (unit_for view.unit cycle) (step_at n) extra text
 
 -- What is drawn of slacks: their picture, or nothing where no schedule is right.
 abbrev pub IsSlackDrawn : View → Slacks → Drawn → Type 0

@@ -17,8 +17,8 @@ use Rattle.mintcx_json.specs.Clocks.{schedule_fields}
 use Rattle.mintcx_json.specs.Chains.{stage_fields}
 use Rattle.mintcx_json.specs.Verdicts.{claim_fields}
 
--- A corner, counted from 0: the name of its file of delays, and the least cycle time that it needs alone, or that it has
--- none.
+-- A corner, counted from 0: the name of its file of delays, and the least cycle time that it needs alone, or that it
+-- has none.
 abbrev pub alone_value : List (List ℕ) → List Certificate → ℕ → Json
 alone_value names alone c = object_of (
     (codes "delays", name (slice_index_or names c [])) ∷

@@ -15,8 +15,8 @@ use Rattle.mintcx_json.specs.Chains.{deciding_value}
 use Rattle.mintcx_json.specs.Optimum.{never_value}
 use Rattle.mintcx_json.specs.Slacks.{time_fields}
 
--- A least cycle time that keeps each hold: the schedule that has it, the chain that forbids every smaller one, and which
--- cycle time would do without holds, over a denominator of its own.
+-- A least cycle time that keeps each hold: the schedule that has it, the chain that forbids every smaller one, and
+-- which cycle time would do without holds, over a denominator of its own.
 abbrev pub safe_value : Design → Schedule → List ℤ → List Stage → Ratio → List ℕ → Json
 safe_value design s d stages without subject = object_of (
     head_fields (codes "safe") 0 (codes "safe") subject ++

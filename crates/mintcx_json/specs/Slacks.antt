@@ -9,8 +9,8 @@ use Rattle.mintcx_frame.specs.Names.{element_name}
 use Rattle.mintcx_slacks.specs.Slacks.{AreBySlack, delay_of}
 use Rattle.mintcx_json.specs.Objects.{Field, IsTextOf, array_of, head_fields, name, object_of, whole}
 
--- A pair: its elements, how long its data takes, and by how much more it may. As all times, these are femtoseconds times
--- den.
+-- A pair: its elements, how long its data takes, and by how much more it may. As all times, these are femtoseconds
+-- times den.
 abbrev pub pair_value : Timing → ℤ → ℤ × ℕ → Json
 pair_value t den place = object_of (
     (codes "from", name (element_name t.flat (pair_at t place.1).from)) ∷

@@ -6,7 +6,8 @@ ghost use Rattle.mintc_timing.specs.Limits.{IsDelay, IsDenominator, IsNumerator}
 ghost use Rattle.mintc_timing.specs.Paths.{arc_at};
 ghost use Rattle.mintcx_chain.specs.Names.{IsShort, IsStage, IsStageDelay};
 ghost use Rattle.mintcx_json.specs.Chains.{arc_delay, arc_value, bound_fields, bound_of, chain_value, deciding_value};
-ghost use Rattle.mintcx_json.specs.Chains.{end_name, forbidding_value, path_field, rule_word, stage_fields, stage_value};
+ghost use Rattle.mintcx_json.specs.Chains.{end_name, forbidding_value, path_field, rule_word, stage_fields};
+ghost use Rattle.mintcx_json.specs.Chains.{stage_value};
 ghost use Rattle.mintcx_json.specs.Chains.{why_fields, why_word};
 ghost use Rattle.mintcx_json.specs.Objects.{array_of};
 ghost use Rattle.mintcx_json.specs.Pieces.{fields_tokens, values_tokens};

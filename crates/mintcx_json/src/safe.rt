@@ -110,9 +110,9 @@ fn never_json(
     sheet.into_text()
 }
 
-/// The object of a safe certificate: the least cycle time that keeps each hold with its schedule, the chain that decides
-/// it, from its beginning, and the least cycle time without holds; or the chain that forbids every cycle time. Times are
-/// femtoseconds times `den`, of which the one without holds has its own.
+/// The object of a safe certificate: the least cycle time that keeps each hold with its schedule, the chain that
+/// decides it, from its beginning, and the least cycle time without holds; or the chain that forbids every cycle time.
+/// Times are femtoseconds times `den`, of which the one without holds has its own.
 pub fn safe_json(
     alloc: Global,
     system: &System,

@@ -162,8 +162,8 @@ fn never_json(alloc: Global, subject: &[u8]) -> Result<Bytes, OutOfMemory>
     sheet.into_text()
 }
 
-/// The object of slacks: the least cycle time, and all pairs with how long their data takes and by how much more it may,
-/// the least slack first; none where no schedule is right. Times are femtoseconds times `den`.
+/// The object of slacks: the least cycle time, and all pairs with how long their data takes and by how much more it
+/// may, the least slack first; none where no schedule is right. Times are femtoseconds times `den`.
 pub fn slack_json(
     alloc: Global,
     system: &System,

@@ -4,8 +4,8 @@
 //! violations: the rules of the clock in mintc's order, then the setups, then the holds, of each kind the worst first.
 //! A setup or a hold that fails is told with the data that causes it: from where it comes, when it leaves, how long it
 //! takes, and when it is wanted. The writers of single rules and of times amid words, the order of violations and the
-//! rooms are handed out for other texts that tell of a system under a schedule. Each text has one definition, and each number in it is that of the exact
-//! amount. No call refuses: those that write may lack memory, and nothing else.
+//! rooms are handed out for other texts that tell of a system under a schedule. Each text has one definition, and each
+//! number in it is that of the exact amount. No call refuses: those that write may lack memory, and nothing else.
 #![tactic(auto)]
 
 mod causes;

@@ -7,8 +7,8 @@ use mintc_text::OutOfMemory;
 use mintc_timing::{Broken, Violation};
 use std::alloc::Global;
 
-/// A violation's place: its rank, its amount turned round where the worst comes first, and its number, counted from 0; or an
-/// element's: 0 where it has a room for its setup, that room, and its number.
+/// A violation's place: its rank, its amount turned round where the worst comes first, and its number, counted from 0;
+/// or an element's: 0 where it has a room for its setup, that room, and its number.
 pub type Place = (u32, i128, usize);
 
 /// The rank of a violation: rules of the clock and loops, setups, holds.

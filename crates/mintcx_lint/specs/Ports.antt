@@ -1,5 +1,6 @@
 -- Ports of the top of which a clock description says nothing.
-use Rattle.std.specs.Prelude.{◌≡◌, ◌==◌, ℕ, nat_eq, Bool, true, false, not, ◌&&◌, ◌||◌, List, ◌∷◌, bytes_eq, filter, length, map}
+use Rattle.std.specs.Prelude.{◌≡◌, ◌==◌, ℕ, nat_eq, Bool, true, false, not, ◌&&◌, ◌||◌, List, ◌∷◌, bytes_eq}
+use Rattle.std.specs.Prelude.{filter, length, map}
 use Rattle.std.specs.Prelude.{slice_index_or}
 use Rattle.std.specs.Bool.{beq}
 use Rattle.std.specs.List.{count_by, list_any, starts_with}

@@ -15,7 +15,8 @@ use Rattle.mintcx_run.specs.declared.orders.Order.{Order}
 
 -- The text is a description of the very cells of a library's text, but for gates that are cells of the clock in it.
 abbrev pub IsDescriptionOf : Text → List Text → Text → Type 0
-IsDescriptionOf library gates text = (cells : List (Text × Cell)) × HasClockCells library gates cells × AreCells text cells
+IsDescriptionOf library gates text =
+    (cells : List (Text × Cell)) × HasClockCells library gates cells × AreCells text cells
 
 -- Why there is none: the library is too long, or refused, or a gate can't be a cell of the clock.
 abbrev pub IsUnfitLibrary : Text → List Text → Unfit → Type 0

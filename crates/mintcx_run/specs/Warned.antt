@@ -23,8 +23,8 @@ abbrev pub described : Bool → CellsForm
 described true = form.Made
 described false = form.Description
 
--- the command is asked of a design of four files, of which the cells are in this form; those of a library may be described
--- for it
+-- the command is asked of a design of four files, of which the cells are in this form; those of a library may be
+-- described for it
 abbrev pub IsOfFour : Command → Bool → CellsForm → Type 0
 IsOfFour (OfDesign job source.Files) of_library cells = cells ≡ described of_library
 IsOfFour (OfDesign job source.Liberty) of_library cells = cells ≡ form.Library
@@ -53,7 +53,8 @@ IsSomeFileOf order fronts file = (number : ℕ) × IsFileOf order.call.files fro
 -- no warnings of delays below 0; or, where 0 is taken for them, those of some files of an order
 abbrev pub AreClampsTold : Order → List Text → Text → Type 0
 AreClampsTold order fronts text = (text ≡ [])
-    ⊎ ((order.call.clamp ≡ true) × (files : List File) × All (IsSomeFileOf order fronts) files × AreOfClamped files text)
+    ⊎ ((order.call.clamp ≡ true)
+        × (files : List File) × All (IsSomeFileOf order fronts) files × AreOfClamped files text)
 
 -- The warnings beside an answer: of delays below 0 for which 0 is taken, and then of what is taken of the files.
 pub record AreAllWarned (order : Order) (fronts taken : List Text) (text : Text) : Type 0 where

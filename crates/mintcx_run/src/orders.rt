@@ -31,8 +31,8 @@ pub(crate) struct Made {
     pub(crate) clock: ClockText,
 }
 
-/// A call of mintc, and how its answer is given; where `made` is there, its first file is a table that is made of others,
-/// and stands in none.
+/// A call of mintc, and how its answer is given; where `made` is there, its first file is a table that is made of
+/// others, and stands in none.
 #[derive(Drop)]
 pub(crate) struct Order {
     pub(crate) call: Call,

@@ -141,8 +141,8 @@ fn warn<E: Sink>(errors: &mut E, warnings: &[u8])
     }
 }
 
-/// Makes the file beside a reply, and tells its warnings and writes its text where that could be made. The status is the
-/// reply's, or that one of the two couldn't be written.
+/// Makes the file beside a reply, and tells its warnings and writes its text where that could be made. The status is
+/// the reply's, or that one of the two couldn't be written.
 fn deliver<O: Sink, E: Sink, F: Folder>(
     alloc: Global,
     reply: &Reply,

@@ -20,8 +20,8 @@ use mintcx_refusals::{
 };
 use std::alloc::Global;
 
-/// The first bytes of a file of an order, by its number; none of a table that is made of files, or where that file can't
-/// be read any more.
+/// The first bytes of a file of an order, by its number; none of a table that is made of files, or where that file
+/// can't be read any more.
 fn file_again<S: Shelf>(alloc: Global, order: &Order, at: usize, shelf: &mut S) -> Bytes
     requires { at < length order.now.call.files }
     ensures file { (result ≡ []) ⊎ (IsStanding order.now at
@@ -38,8 +38,8 @@ fn file_again<S: Shelf>(alloc: Global, order: &Order, at: usize, shelf: &mut S) 
     Bytes::new(Vec::new(alloc))
 }
 
-/// The first bytes of the file that a refusal speaks of, read once more; none where it speaks of none or of a table that
-/// is made, or where that file can't be read any more.
+/// The first bytes of the file that a refusal speaks of, read once more; none where it speaks of none or of a table
+/// that is made, or where that file can't be read any more.
 fn refused_file<S: Shelf>(alloc: Global, order: &Order, refusal: &Refusal, shelf: &mut S) -> Bytes
     requires in_range { IsNumberInRange order.now.call.command }
     requires names { length order.now.call.files ≡ length (roles_of order.now.call.command) }
@@ -116,8 +116,8 @@ fn said(
     }
 }
 
-/// What is said for people of a corner, counted from 1, and of what its own files are refused for, with the bytes of the
-/// file that this speaks of, and of the one beside it.
+/// What is said for people of a corner, counted from 1, and of what its own files are refused for, with the bytes of
+/// the file that this speaks of, and of the one beside it.
 fn message_of_corner(
     alloc: Global,
     order: &Order,

@@ -143,8 +143,8 @@ fn told_clamps(alloc: Global, order: &Order, files: &[Bytes]) -> Result<Bytes, O
     clamped_warnings(alloc, delays.as_slice())
 }
 
-/// The warnings of delays below 0 for which 0 is taken, of the first bytes of the files of an order; no byte where there
-/// are none, and where they aren't told.
+/// The warnings of delays below 0 for which 0 is taken, of the first bytes of the files of an order; no byte where
+/// there are none, and where they aren't told.
 pub(crate) fn clamps_for(alloc: Global, order: &Order, files: &[Bytes]) -> Bytes
     requires count { length files.now ≡ length (roles_of order.now.call.command) }
     requires names { length order.now.call.files ≡ length (roles_of order.now.call.command) }
@@ -180,8 +180,8 @@ fn together(alloc: Global, first: &[u8], second: &[u8]) -> Result<Bytes, OutOfMe
     Ok(Bytes::new(lines.into_bytes()))
 }
 
-/// The warnings that are told beside the answer to an order, of what is taken of its files, behind those of delays below
-/// 0 in its files as they are.
+/// The warnings that are told beside the answer to an order, of what is taken of its files, behind those of delays
+/// below 0 in its files as they are.
 pub(crate) fn all_warnings(alloc: Global, order: &Order, clamps: Bytes, files: &[Bytes]) -> Bytes
     requires count { length files.now ≡ length (roles_of order.now.call.command) }
     requires names { length order.now.call.files ≡ length (roles_of order.now.call.command) }

@@ -46,8 +46,8 @@ pub enum Obstacle {
         phase: usize,
         over: i64,
     },
-    /// Two phases are on the levels of one port, and the one at the low level isn't active just when the other one isn't:
-    /// it starts so long after that one ends, or ends at another moment.
+    /// Two phases are on the levels of one port, and the one at the low level isn't active just when the other one
+    /// isn't: it starts so long after that one ends, or ends at another moment.
     Levels {
         high: usize,
         low: usize,

@@ -1,5 +1,6 @@
 //! Tests of the public calls of mintcx, of what no clause says: clap's texts, the messages, and rows of words with the
-//! requests that they are; what there is at some cycle times; amounts, columns, frames, explanations, clocks as SDC and designs as tables.
+//! requests that they are; what there is at some cycle times; amounts, columns, frames, explanations, clocks as SDC and
+//! designs as tables.
 #![tactic(auto)]
 
 #[cfg(test)]

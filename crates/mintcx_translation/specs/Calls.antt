@@ -92,8 +92,8 @@ draw_job file true = job.Slack
 draw_job (Some file) false = job.Verify
 draw_job None false = job.Optimise
 
--- the job of a task on one design; clocks and pictures are those of a certificate, where the file isn't a schedule's own
--- text; a table is that of the design of an optimum
+-- the job of a task on one design; clocks and pictures are those of a certificate, where the file isn't a schedule's
+-- own text; a table is that of the design of an optimum
 abbrev pub job_of : Task → Result Job Gap
 job_of (task.Check schedule) = Ok job.Check
 job_of (task.Optimise certificate cycle) = Ok job.Optimise

@@ -25,8 +25,8 @@ pub enum Aspect {
     Cycle(u32),
     /// Of `slack`: the pairs counted by their slack.
     Histogram,
-    /// The rows alone, as CSV: of `check` the rooms or the violations, of `optimise`, `report`, `safe` and `corners` the
-    /// chain that decides, of `slack` the pairs, of `verify` the verdict.
+    /// The rows alone, as CSV: of `check` the rooms or the violations, of `optimise`, `report`, `safe` and `corners`
+    /// the chain that decides, of `slack` the pairs, of `verify` the verdict.
     Rows,
     /// The rows alone, as CSV, of `optimise`: of what there is at a cycle time in femtoseconds.
     CycleRows(u32),
@@ -50,8 +50,8 @@ pub enum Aspect {
 /// A command of mintc, what of it is told, and the names of its files, in their order. Where `of_library` is set, the
 /// file of the cells is a Liberty library, and the command is asked of a description of its cells, of which these gates
 /// carry the clock alone. Where `clamp` is set, 0 is taken for each delay below 0. Where `apart` is set, the command is
-/// asked of the table of the design of four files with edges apart. Where `certificate` names a file, the certificate of
-/// `optimise` is written to it.
+/// asked of the table of the design of four files with edges apart. Where `certificate` names a file, the certificate
+/// of `optimise` is written to it.
 #[derive(Debug, Drop)]
 pub struct Call {
     pub command: Command,

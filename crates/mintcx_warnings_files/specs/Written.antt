@@ -84,8 +84,8 @@ IsOfCells file p text = (paths : List DataPath) × AreDataPaths p.hierarchy p.ce
     × ((texts : List (List ℕ)) × AllZip (IsOfCell file p paths) (range_with_len 0 (length p.cells)) texts
     × (text ≡ concat texts))
 
--- what is written of ports of the top: the warning of those that no phase and no list names, and nothing where there are
--- none
+-- what is written of ports of the top: the warning of those that no phase and no list names, and nothing where there
+-- are none
 abbrev pub IsOfPorts : File → Parts → List ℕ → Type 0
 IsOfPorts netlist p text = ((unlisted p.hierarchy.ports p.clock ≡ []) × (text ≡ []))
     ⊎ ((found : Unlisted) × IsUnlisted p.hierarchy.ports p.clock found

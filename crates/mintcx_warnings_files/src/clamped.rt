@@ -164,8 +164,8 @@ fn clamped_warning(alloc: Global, delays: &File<'_>) -> Result<Bytes, OutOfMemor
     }
 }
 
-/// The warnings of the delays below 0 of some files, which are taken as 0, one behind the other; no byte of a file where
-/// none is found.
+/// The warnings of the delays below 0 of some files, which are taken as 0, one behind the other; no byte of a file
+/// where none is found.
 pub fn clamped_warnings(alloc: Global, files: &[File<'_>]) -> Result<Bytes, OutOfMemory>
     ensures { IfOk result (AreOfClamped files.now) }
 {

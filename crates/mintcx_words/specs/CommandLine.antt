@@ -51,7 +51,8 @@ taking_rules words = choice_rule (codes "edges") (codes "merged") words.edges �
 
 -- the last options that name a design
 abbrev pub back_rules : Choices → Asked → List Rule
-back_rules words asked = if has_table asked then option_rule (codes "table") ∷ taking_rules words else taking_rules words
+back_rules words asked =
+    if has_table asked then option_rule (codes "table") ∷ taking_rules words else taking_rules words
 
 -- the options of the answer's form and unit
 abbrev pub form_rules : Choices → List Rule
