@@ -12,7 +12,7 @@ use Rattle.mintc_annotate_resolve.specs.Pins.{input_count, output_count}
 use Rattle.mintc_annotate_resolve.specs.Resolution.{Said, range_of, join_into, arcs_from}
 use Rattle.mintc_annotate.specs.Made.{arc_of, no_delay, inner_bit, join_arc, input_arcs, output_arcs}
 use Rattle.mintc_annotate_resolve.proofs.SharedRangeLimits.{AreSaid, range_in}
-use Rattle.mintc_annotate.proofs.ElementLimits.{AreDelays, or_in}
+use Rattle.mintc_annotate.proofs.SharedElementLimits.{AreDelays, or_in}
 
 pub none_delays : AreDelays no_delay
 none_delays = ((omega (arith, ints), omega (arith, ints)), (omega (arith, ints), omega (arith, ints)), omega (arith, ints))

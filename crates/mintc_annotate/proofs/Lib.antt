@@ -2,10 +2,11 @@ pub mod SharedPartLaws
 mod AnnotateLaws
 mod ArcLimits
 mod BuildLaws
-mod CountLaws
+pub mod SharedCountLaws
 pub mod SharedDesignLaws
 mod DesignLimits
-mod ElementLimits
+pub mod SharedElementLimits
+mod SaidLaws
 mod ListingLaws
 mod PartLimits
 mod JumpLaws

@@ -22,7 +22,7 @@ use Rattle.mintc_annotate_resolve.specs.declared.targets.Target.TheVariants as a
 use Rattle.mintc_annotate_resolve.specs.Resolution.{Target, Resolved, of, of_leaf, together, of_each, of_instance, of_place, leaf_called, resolved, targets, refusal_of, first_refusal}
 use Rattle.mintc_annotate_resolve.specs.Targets.{target_of, IsThere}
 use Rattle.mintc_annotate_resolve.proofs.SharedInstanceLaws.{no_leaf_at_top}
-use Rattle.mintc_annotate_delays.specs.Gathered.{path_of}
+use Rattle.mintc_annotate_delays.specs.Groups.{path_of}
 use Rattle.mintc_annotate.proofs.SharedPartLaws.{stored_rules}
 use Rattle.mintc_edges.specs.declared.matters.Matter.{Matter}
 use Rattle.mintc_edges.specs.declared.told.Told.{Told}

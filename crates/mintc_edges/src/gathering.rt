@@ -12,7 +12,8 @@ ghost use Rattle.mintc_annotate_resolve.specs.declared.targets.Resolved.TheVaria
 ghost use Rattle.mintc_annotate_resolve.specs.Targets.{target_of, targets_of, resolved_of, IsThere, AreThere};
 ghost use Rattle.mintc_annotate_resolve.specs.Instances.{IsAt};
 ghost use Rattle.mintc_annotate_resolve.specs.Lookups.{IsLookup};
-ghost use Rattle.mintc_annotate_delays.specs.Gathered.{AreGrouped, IsGroupedIn, path_of};
+ghost use Rattle.mintc_annotate_delays.specs.Groups.{AreGrouped, path_of};
+ghost use Rattle.mintc_annotate_delays.specs.Gathered.{IsGroupedIn};
 ghost use Rattle.mintc_edges.specs.Numbers.{without_edges};
 ghost use Rattle.mintc_edges.specs.Claims.{IsApt, IsTakenIn, begins_at_clock, said_of};
 ghost use Rattle.mintc_edges.specs.Told.{HasRoom, IsUntold, AreTold};

@@ -2,7 +2,7 @@ use Rattle.std.proofs.Common.{◌≡◌, Some, sym, ap, ◌∙◌, subst}
 use Rattle.std.proofs.lemmas.Result.{err_from_is_err_and}
 use Rattle.mintc_annotate_resolve.specs.Resolution.{Resolved, of_instance, leaf_called, resolved, refusal_of}
 use Rattle.mintc_annotate_resolve.specs.Instances.{IsAt}
-use Rattle.mintc_annotate_delays.specs.Gathered.{path_of}
+use Rattle.mintc_annotate_delays.specs.Groups.{path_of}
 use Rattle.mintc_annotate_resolve.proofs.SharedPathLaws.{Path}
 use Rattle.mintc_edges.specs.Claims.{IsTakenIn}
 use Rattle.mintc_edges.proofs.TakenLaws.{path_resolved, stops_more}

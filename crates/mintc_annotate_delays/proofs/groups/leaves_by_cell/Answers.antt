@@ -2,8 +2,8 @@ use Rattle.std.proofs.Common.{◌≡◌, ◌<◌, ◌≤◌, ◌+◌, ℕ, List,
 use Rattle.std.proofs.lemmas.List.{get_or_default}
 use Rattle.mintc_flatten_hierarchy.specs.declared.hierarchy.Leaf.{Leaf}
 use Rattle.mintc_annotate_resolve.specs.Pins.{leaf_at, no_leaf}
-use Rattle.mintc_annotate_delays.proofs.GroupLaws.{cell_within, no_groups_more, groups_more, groups_all}
-use Rattle.mintc_annotate_delays.proofs.gathering.leaves_by_cell.Goals as goal
+use Rattle.mintc_annotate_delays.proofs.SharedGroupLaws.{cell_within, no_groups_more, groups_more, groups_all}
+use Rattle.mintc_annotate_delays.proofs.groups.leaves_by_cell.Goals as goal
 
 pub loop-cell-preserved : goal.loop-cell-preserved
 loop-cell-preserved c =

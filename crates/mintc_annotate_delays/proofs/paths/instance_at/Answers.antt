@@ -1,7 +1,7 @@
 use Rattle.std.proofs.Common.{◌≡◌, sym, ◌∙◌, subst}
 use Rattle.mintc_annotate_resolve.specs.Instances.{IsAt}
 use Rattle.mintc_annotate_resolve.proofs.SharedPathLaws.{Path, same_is}
-use Rattle.mintc_annotate_delays.proofs.gathering.instance_at.Goals as goal
+use Rattle.mintc_annotate_delays.proofs.paths.instance_at.Goals as goal
 
 pub returns-then-is_same_path : goal.returns-then-is_same_path
 returns-then-is_same_path c =

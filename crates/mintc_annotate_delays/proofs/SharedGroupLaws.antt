@@ -18,7 +18,8 @@ use Rattle.mintc_flatten_hierarchy.specs.declared.hierarchy.Hierarchy.{Hierarchy
 use Rattle.mintc_flatten_hierarchy.specs.Shape.{CellTable, IsFlattened}
 use Rattle.mintc_annotate_resolve.specs.Pins.{leaf_at, no_leaf, all_leaves}
 use Rattle.mintc_annotate_resolve.specs.Resolution.{of, of_each, of_every, leaves_of}
-use Rattle.mintc_annotate_delays.specs.Gathered.{leaves_with, IsGroupedIn}
+use Rattle.mintc_annotate_delays.specs.Groups.{leaves_with}
+use Rattle.mintc_annotate_delays.specs.Gathered.{IsGroupedIn}
 use Rattle.mintc_annotate_resolve.proofs.SharedFirstLaws.{number, position_missing}
 use Rattle.mintc_annotate_resolve.proofs.SharedResolutionLaws.{IsNoWire}
 

@@ -1,6 +1,6 @@
 use Rattle.std.proofs.Common.{◌≡◌, ◌<◌, ◌==◌, ℕ, [], length, filter, take, slice_index_or, Vec, Global}
 use Rattle.mintc_annotate_resolve.specs.Pins.{leaf_at, all_leaves}
-use Rattle.mintc_annotate_delays.proofs.gathering.leaves_by_cell.Given as goal
+use Rattle.mintc_annotate_delays.proofs.groups.leaves_by_cell.Given as goal
 
 -- the cells so far have no leaves
 abbrev pub invariant-loop-cell : goal.invariant-loop-cell
