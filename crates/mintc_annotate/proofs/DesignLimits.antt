@@ -24,7 +24,7 @@ use Rattle.mintc_annotate.specs.ClockPorts.{listed_in}
 use Rattle.mintc_annotate.specs.Phases.{storage, first_at, same_spot, IsPhaseOf}
 use Rattle.mintc_annotate_resolve.specs.Resolution.{Said, range_of}
 use Rattle.mintc_annotate.specs.Made.{element_of, port_element, bits_of, elements_of}
-use Rattle.mintc_annotate_resolve.proofs.SharedRangeLimits.{AreSaid}
+use Rattle.mintc_annotate_resolve.proofs.SharedRangeLimits.{AreSaid, range_in}
 use Rattle.mintc_annotate.proofs.SharedElementLimits.{margin_is, delay_is, order_is, KeepsHold, storage_in}
 
 phase_is : (k p : ℕ) → is_phase k p ≡ true → IsPhase k p

@@ -1,5 +1,5 @@
 -- What is said of one latch or flop, and its element by that.
-use Rattle.std.specs.Prelude.{ℕ, ℤ, List, Option, None}
+use Rattle.std.specs.Prelude.{ℕ, List, None}
 use Rattle.mintc_cells.specs.declared.cell.Cell.{Cell}
 use Rattle.mintc_timing.specs.declared.parts.Element.{Element}
 use Rattle.mintc_annotate_resolve.specs.Resolution.{dq_of, cq_of, setup_of, hold_of, width_of}
