@@ -1,6 +1,6 @@
 pub mod SharedPartLaws
 mod AnnotateLaws
-mod ArcLimits
+pub mod SharedArcLimits
 mod BuildLaws
 pub mod SharedCountLaws
 pub mod SharedDesignLaws

@@ -29,7 +29,7 @@ path_resolved h cells d path is = resolved_at h cells d d.place path is
 or_assoc : (a b c : Option Refusal) → option_or a (option_or b c) ≡ option_or (option_or a b) c
 or_assoc a b c = grind arith
 
-refusal_append : (h : Hierarchy) (cells : CellTable) (xs ys : List Delay) → first_refusal h cells (xs ++ ys) ≡ option_or (first_refusal h cells xs) (first_refusal h cells ys)
+pub refusal_append : (h : Hierarchy) (cells : CellTable) (xs ys : List Delay) → first_refusal h cells (xs ++ ys) ≡ option_or (first_refusal h cells xs) (first_refusal h cells ys)
 refusal_append h cells [] ys = refl
 refusal_append h cells (d ∷ xs) ys = rw (refusal_append h cells xs ys, or_assoc) refl
 

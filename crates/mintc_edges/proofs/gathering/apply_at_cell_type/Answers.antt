@@ -6,7 +6,7 @@ use Rattle.mintc_annotate_resolve.specs.Resolution.{Resolved, of_each, of_every,
 use Rattle.mintc_annotate_delays.specs.Groups.{leaves_with}
 use Rattle.mintc_edges.specs.Claims.{IsTakenIn}
 use Rattle.mintc_edges.proofs.TakenLaws.{taken-nothing}
-use Rattle.mintc_edges.proofs.GroupLaws.{found_cell, group_inside, every_found, every_missing}
+use Rattle.mintc_annotate_delays.proofs.SharedGroupLaws.{found_cell, group_inside, every_found, every_missing}
 use Rattle.mintc_edges.proofs.gathering.apply_at_cell_type.Goals as goal
 
 pub apply_at_leaves-requires-clause-leaves : goal.apply_at_leaves-requires-clause-leaves

@@ -5,7 +5,8 @@ use Rattle.mintc_annotate_resolve.specs.Instances.{IsAt}
 use Rattle.mintc_annotate_delays.specs.Groups.{path_of}
 use Rattle.mintc_annotate_resolve.proofs.SharedPathLaws.{Path}
 use Rattle.mintc_edges.specs.Claims.{IsTakenIn}
-use Rattle.mintc_edges.proofs.TakenLaws.{path_resolved, stops_more}
+use Rattle.mintc_annotate_delays.proofs.SharedLeafLaws.{stops_more}
+use Rattle.mintc_annotate_delays.proofs.SharedDelayLaws.{path_resolved}
 use Rattle.mintc_edges.proofs.gathering.apply_delay.Goals as goal
 
 pub returns-in_err-apply_at_instance-in-Some-clause-err : goal.returns-in_err-apply_at_instance-in-Some-clause-err
