@@ -1,11 +1,12 @@
 use Rattle.mintcx_edges.specs.EdgeFiles.{description, library_with}
-use Rattle.mintcx_edges.proofs.FormLaws.{described_plain, library_plain}
-use Rattle.mintcx_edges.proofs.PlainLaws.{AreFilesLaws, plain_lem}
+use Rattle.mintc_build.proofs.SharedFilesLaws.{described_plain}
+use Rattle.mintcx_edges.proofs.FormLaws.{library_plain}
+use Rattle.mintcx_edges.proofs.PlainLaws.{AreLaws, plain_lem}
 use Rattle.mintcx_edges.proofs.laws.edge_files_are_plain.Goals as goal
 
 pub returns-clause-described : goal.returns-clause-described
 returns-clause-described c =
-    let law : AreFilesLaws = record {
+    let law : AreLaws = record {
       one_netlist = c.texts_are_plain.ensures.value;
       no_fault = c.texts_are_plain.ensures.no_fault;
       one_fault = c.texts_are_plain.ensures.fault;
@@ -20,7 +21,7 @@ returns-clause-described c =
 
 pub returns-clause-library : goal.returns-clause-library
 returns-clause-library c =
-    let law : AreFilesLaws = record {
+    let law : AreLaws = record {
       one_netlist = c.texts_are_plain.ensures.value;
       no_fault = c.texts_are_plain.ensures.no_fault;
       one_fault = c.texts_are_plain.ensures.fault;
