@@ -1,4 +1,4 @@
-use Rattle.std.proofs.Common.{◌≡◌, ◌∙◌, length, arith}
+use Rattle.std.proofs.Common.{◌≡◌, arith}
 use Rattle.std.proofs.lemmas.Grind.{common_steps}
 use Rattle.mintc_checker.specs.Course.{moved}
 use Rattle.mintc_checker.proofs.Placing.{length-moved, moved_between}
