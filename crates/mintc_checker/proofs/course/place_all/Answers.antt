@@ -1,6 +1,6 @@
 use Rattle.std.proofs.Common.{◌<◌, length, refl, arith}
 use Rattle.std.proofs.lemmas.Grind.{common_steps}
-use Rattle.mintc_checker.proofs.Placing.{AreSteps-none}
+use Rattle.mintc_checker.proofs.Placing.{AreSteps-more, AreSteps-none}
 use Rattle.mintc_checker.proofs.course.place_all.Goals as goal
 
 pub loop-place-init : goal.loop-place-init
