@@ -1,6 +1,6 @@
 use Rattle.std.proofs.Common.{◌∙◌, sym}
 use Rattle.mintc_timing.proofs.SharedFitting.{read_time, IsTime-IsDelay}
-use Rattle.mintc_checker.proofs.course.step_of.Goals as goal
+use Rattle.mintc_checker.proofs.course.placed_step.Goals as goal
 
 pub returns-clause-kept : goal.returns-clause-kept
 returns-clause-kept c = λ other some.
@@ -14,7 +14,7 @@ returns-clause-step c =
     record {
       from = a.own ∙ sym (b.kept c.args.arc.from (λ e. a.some (a.own ∙ e)));
       to = b.own;
-      max = read_time c.args.arc.max (IsTime-IsDelay _ c.requires.max);
+      max = read_time c.args.arc.max (IsTime-IsDelay _ c.requires.arc.max);
       begins = a.some;
       ends = b.some;
     }
