@@ -30,16 +30,16 @@ abbrev pub AreLaws : Type 0
 AreLaws = AreFilesLaws EdgeDesignsAreDetermined EdgeDesignsAreNotRefused EdgeRefusalsAreDetermined
 
 pub laws_of : HaveOneNetlist → HaveNoFault → HaveOneFault → ClocksAreDetermined → ClocksAreNotRefused → BadClocksAreDetermined → EdgeDesignsAreDetermined → EdgeDesignsAreNotRefused → EdgeRefusalsAreDetermined → AreLaws
-laws_of one_netlist no_fault one_fault one_clock no_bad_clock one_bad_clock one_design no_refusal one_refusal = record {
-  one_netlist = one_netlist;
-  no_fault = no_fault;
-  one_fault = one_fault;
-  one_clock = one_clock;
-  no_bad_clock = no_bad_clock;
-  one_bad_clock = one_bad_clock;
-  one_design = one_design;
-  no_refusal = no_refusal;
-  one_refusal = one_refusal;
+laws_of netlists sound faulty clocks fit unfit designs accepted refused = record {
+  one_netlist = netlists;
+  no_fault = sound;
+  one_fault = faulty;
+  one_clock = clocks;
+  no_bad_clock = fit;
+  one_bad_clock = unfit;
+  one_design = designs;
+  no_refusal = accepted;
+  one_refusal = refused;
 }
 
 -- a form of cells, of which a text has one list or one refusal
