@@ -6,10 +6,12 @@ use Rattle.mintc_text.specs.declared.refusals.Refusal.TheVariants as refusal
 use Rattle.mintc_text.specs.declared.refusals.Role.TheVariants as role
 use Rattle.mintc_timing.specs.Design.{Design}
 use Rattle.mintc_netlist.specs.declared.module.Netlist.{Netlist}
+use Rattle.mintc_verilog.specs.Laws.{HaveOneNetlist, HaveNoFault, HaveOneFault}
 use Rattle.mintc_sdf.specs.Texts.{delays_of}
 use Rattle.mintc_sdf_edges.specs.declared.delays.EdgeDelay.{EdgeDelay}
 use Rattle.mintc_sdf_edges.specs.Texts.{AreTold, told_in}
 use Rattle.mintc_clock.specs.declared.clock.Clock.{Clock}
+use Rattle.mintc_clock.specs.Laws.{BadClocksAreDetermined, ClocksAreDetermined, ClocksAreNotRefused}
 use Rattle.mintc_flatten_hierarchy.specs.declared.hierarchy.Hierarchy.{Hierarchy}
 use Rattle.mintc_flatten_hierarchy.specs.Sources.{source_of}
 use Rattle.mintc_flatten_hierarchy.specs.Refusals.{refusal_of}
@@ -26,6 +28,19 @@ use Rattle.mintcx_edges.specs.Laws.{AreEdgePlain}
 -- the laws of the texts and of what is made of them
 abbrev pub AreLaws : Type 0
 AreLaws = AreFilesLaws EdgeDesignsAreDetermined EdgeDesignsAreNotRefused EdgeRefusalsAreDetermined
+
+pub laws_of : HaveOneNetlist → HaveNoFault → HaveOneFault → ClocksAreDetermined → ClocksAreNotRefused → BadClocksAreDetermined → EdgeDesignsAreDetermined → EdgeDesignsAreNotRefused → EdgeRefusalsAreDetermined → AreLaws
+laws_of netlists sound faulty clocks fit unfit designs accepted refused = record {
+  one_netlist = netlists;
+  no_fault = sound;
+  one_fault = faulty;
+  one_clock = clocks;
+  no_bad_clock = fit;
+  one_bad_clock = unfit;
+  one_design = designs;
+  no_refusal = accepted;
+  one_refusal = refused;
+}
 
 -- a form of cells, of which a text has one list or one refusal
 abbrev pub IsPlain : (List ℕ → SensedText) → Type 1
