@@ -211,7 +211,7 @@ fn edges_help(refusal: &Refusal) -> &'static [u8] {
         Refusal::Limit {
             kind: Kind::Inner | Kind::Elements | Kind::Arcs,
             ..
-        } => b"; where edges are apart, `--edges merged` takes half",
+        } => b"; with edges apart `--edges merged` takes half",
         _ => b"",
     }
 }
