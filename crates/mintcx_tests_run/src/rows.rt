@@ -772,7 +772,12 @@ create_clock -name {p2} -period 0.00008 -waveform {0.000015 0.000075} [get_ports
         ),
         (
             "mintcx check apart.schedule --netlist ring.v --sdf ring.sdf --lib ring.lib --clock ring.toml --format plain",
-            "0|pass\ncycle 80/1\n||",
+            "0|pass
+element a/r late 0/1 early 0/1
+element a/f late 10/1 early 10/1
+element b/r late 45/1 early 45/1
+element b/f late 55/1 early 55/1
+||",
         ),
         (
             "mintcx safe --netlist ring.v --sdf ring.sdf --lib ring.lib --clock ring.toml --clock-cell X",
@@ -780,7 +785,7 @@ create_clock -name {p2} -period 0.00008 -waveform {0.000015 0.000075} [get_ports
         ),
         (
             "mintcx optimise --netlist ring.v --sdf ring.v --lib ring.lib --clock ring.toml --errors short",
-            "2||ring.v:1:1: error[1]: this part of the delays isn't read\n|",
+            "2||ring.v: error[1]: this part of the delays isn't read\n|",
         ),
     ],
 };
