@@ -10,4 +10,7 @@ mod Pairing
 mod Fed
 mod Exact
 mod Placing
+mod Lasts
+mod Sharing
 mod Placed
+mod Holding
