@@ -13,7 +13,7 @@ use Rattle.mintc_graph.proofs.SharedRingLaws.{total-push}
 use Rattle.mintc_lanes.specs.Lanes.{joined, AreJoined}
 use Rattle.mintc_checker.specs.declared.labels.Labels.{Labels}
 use Rattle.mintc_checker.specs.Trails.{IsGreatestTime, LeadsFrom, time_along}
-use Rattle.mintc_checker.specs.Labels.{labels_at, label_at, AreLabels, AreLabelsOf, IsStart, IsAlong}
+use Rattle.mintc_checker.specs.Labels.{IsAlong}
 use Rattle.mintc_checker.proofs.Greatest.{greatest_same, greatest_joined}
 
 module _ (design : Design) (den : ℤ) (d : List ℤ) where

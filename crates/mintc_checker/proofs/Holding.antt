@@ -111,7 +111,7 @@ module _ (design : Design) (limits : IsDesign design) (den : ℤ) (d : List ℤ)
         (λ p. alive (p.last, p.before k low_arcs refl, p.marked, p.leaves))
         (λ p. ⊎_elim (λ first. p.entered first)
         (λ e.
-        let before = p.before e.0 (omega (arith, e.1)) e.2 in
+        let before = p.before e.0 (omega (arith, e.1, low_arcs)) e.2 in
         let after = ordered k p.last low (omega (arith, p.inside, count)) (sym p.leaves) in
         omega (arith, before, after, e.1)) b)
         (h.places.shared bit to ne (has_place (k + 1) bit (omega arith) b) same)
@@ -128,7 +128,7 @@ module _ (design : Design) (limits : IsDesign design) (den : ℤ) (d : List ℤ)
         let sooner = ordered e.0 k e.1 low e.2 in
         alive (p.last, omega (arith, before, sooner), p.marked, p.leaves)) (h.places.begun from (λ z. some (same ∙ z))))
         (λ p. ⊎_elim (λ first. p.entered first)
-        (λ e. let before = p.before e.0 (omega (arith, e.1)) e.2 in from_not_over (p.last, omega (arith, before, e.1), p.marked, p.leaves)) b)
+        (λ e. let before = p.before e.0 (omega (arith, e.1, low_arcs)) e.2 in from_not_over (p.last, omega (arith, before, e.1), p.marked, p.leaves)) b)
         (h.places.shared bit from ne some same)
 
     pub right_from : IsRowOf design den d (IsAlong order k) from (labels_at rows (place_at bits from)).lanes

@@ -1,4 +1,4 @@
-use Rattle.std.proofs.Common.{◌≡◌, ◌≢◌, ◌<◌, ◌+◌, ℕ, length, set, arith, ap, refl, ◌∙◌, sym, subst, to_z, of_z, w64}
+use Rattle.std.proofs.Common.{◌≡◌, ◌≢◌, ◌<◌, ◌+◌, ℕ, length, get_or, set, false, arith, ap, refl, ◌∙◌, sym, subst, to_z, of_z, w64}
 use Rattle.std.proofs.lemmas.Grind.{common_steps}
 use Rattle.mintc_timing.proofs.SharedFitting.{read_time, IsTime-IsDelay}
 use Rattle.mintc_checker.specs.declared.course.Places.{Places}
@@ -38,7 +38,7 @@ loop-place-preserved c =
     let placed = entered_places IsFirst arcs lasts c.requires.lasts k low old mid place i.places i.free inside entry no_first in
     let free = entered_free IsFirst arcs lasts c.requires.lasts k low old mid place i.places i.free inside entry no_first in
     let bits_are : new.of_bits.items ≡ mid.of_bits.items = ap (λ b. b.items) exit.of_bits in
-    let leaves : IsExit mid new (step_at arcs k).from _ = subst (λ (s : Step). IsExit mid new s.from _) arc exit.free in
+    let leaves : IsExit mid new (step_at arcs k).from (get_or lasts k false) = subst (λ (s : Step). IsExit mid new s.from (get_or lasts k false)) arc exit.free in
     let step : Step = record { from = c.in_ok-from.from; to = place; max = to_z w64 (of_z w64 (step_at c.loop-place.steps k).max) } in
     let is : IsStep mid.of_bits.items (step_at arcs k) step = record {
       from = exit.own ∙ ap (λ (s : Step). place_at mid.of_bits.items s.from) arc;
@@ -48,8 +48,8 @@ loop-place-preserved c =
     } in
     record {
       count = ap (λ xs. length xs) bits_are ∙ entry_count old mid (step_at arcs k).to place inside entry ∙ i.count;
-      places = left_places IsFirst arcs lasts c.requires.lasts k low mid new _ placed free bits_are exit.given leaves (λ marked. marked);
-      free = left_free IsFirst arcs lasts c.requires.lasts k low mid new _ placed free bits_are exit.given leaves (λ marked. marked);
+      places = left_places IsFirst arcs lasts c.requires.lasts k low mid new (get_or lasts k false) placed free bits_are exit.given leaves (λ marked. marked);
+      free = left_free IsFirst arcs lasts c.requires.lasts k low mid new (get_or lasts k false) placed free bits_are exit.given leaves (λ marked. marked);
       given = omega (arith, exit.given, entry_given old mid (step_at arcs k).to place inside entry, i.given);
       steps = subst (λ xs. AreSteps arcs (k + 1) xs (set c.loop-place.steps k step)) (sym bits_are)
           (AreSteps-more (length c.args.places.now.of_bits.items) arcs c.requires.arcs k low old mid place inside entry c.loop-place.steps step i.steps is);

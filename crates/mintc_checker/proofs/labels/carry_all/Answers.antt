@@ -1,4 +1,4 @@
-use Rattle.std.proofs.Common.{◌≡◌, ◌≢◌, ◌<◌, ℕ, length, get_or, arith, ap, ◌∙◌, sym, ◌*ℤ◌, false}
+use Rattle.std.proofs.Common.{◌≡◌, ◌≢◌, ◌<◌, ℕ, length, get_or, arith, ap, ◌∙◌, sym, subst, ◌*ℤ◌, false}
 use Rattle.std.proofs.lemmas.Grind.{common_steps}
 use Rattle.std.proofs.lemmas.List.{get_or_default}
 use Rattle.mintc_timing.specs.Design.{no_arc}
@@ -8,6 +8,7 @@ use Rattle.mintc_timing.proofs.SharedOrdered.{inside}
 use Rattle.mintc_checker.specs.declared.course.Step.{Step}
 use Rattle.mintc_checker.specs.Course.{bare, moved, no_step, place_at, step_at, IsMarked, IsStep}
 use Rattle.mintc_checker.specs.Labels.{IsAlong}
+use Rattle.mintc_checker.specs.Rows.{AreRowsAlong}
 use Rattle.mintc_checker.proofs.Holding.{AreRows-carried, right_from, right_to}
 use Rattle.mintc_checker.proofs.Placing.{length-moved, moved_at}
 use Rattle.mintc_checker.proofs.Sizes.{AreLanes-from_row}
@@ -71,3 +72,8 @@ loop-place-preserved c =
           (rw is.to at c.carry_step.ensures.others) (rw (is.to, is.from) at c.carry_step.ensures.joined)
           (rw (is.from, marks) at c.finish.ensures.others) (rw (is.from, marks) at c.finish.ensures.none);
     }
+
+pub returns : goal.returns
+returns c =
+    let all : c.loop-place.place ≡ length c.args.order.now = grind (arith, common_steps) in
+    subst (λ k. AreRowsAlong c.args.departing.now.flat.now c.args.departing.now.den c.args.departing.now.departures.now c.args.order.now c.args.course.now k c.loop-place.rows) all c.loop-place.invariant.rows
