@@ -80,7 +80,7 @@ def wrong_examples():
 
 
 def with_options(words):
-    """The words of mintcx for those of mintc, of a design or of corners."""
+    """The words of mintcx for those of mintc, which merges edges, of a design or of corners."""
     command, *rest = words
     if command == "corners":
         netlist, cells, clock, *delays = rest
@@ -91,8 +91,8 @@ def with_options(words):
         files = ["--table", table]
     else:
         source, netlist, delays, cells, clock, *own = rest
-        kind = "--lib" if source == "liberty" else "--cells"
-        files = ["--netlist", netlist, "--sdf", delays, kind, cells, "--clock", clock]
+        kind = ["--edges", "merged", "--lib"] if source == "liberty" else ["--cells"]
+        files = ["--netlist", netlist, "--sdf", delays, *kind, cells, "--clock", clock]
     return [command, *own, *files, "--format", "plain"]
 
 

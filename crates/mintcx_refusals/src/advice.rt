@@ -11,7 +11,7 @@ use crate::whys::{is_behaviour, why_of};
 use crate::writing::put_times;
 use mintc_sdf_tokens::is_key;
 use mintc_text::limits::MOST_BYTES;
-use mintc_text::{Bytes, Lines, OutOfMemory, Refusal, Role};
+use mintc_text::{Bytes, Kind, Lines, OutOfMemory, Refusal, Role};
 use mintcx_clamp::clamp;
 use mintcx_finders::{Fault, Item, Lack, name_of};
 use std::alloc::Global;
@@ -205,6 +205,17 @@ fn help_of(case: &Case<'_>) -> &'static [u8] {
     }
 }
 
+/// What helps where a limit is on what stands twice in a design with edges apart.
+fn edges_help(refusal: &Refusal) -> &'static [u8] {
+    match refusal {
+        Refusal::Limit {
+            kind: Kind::Inner | Kind::Elements | Kind::Arcs,
+            ..
+        } => b"; with edges apart `--edges merged` takes half",
+        _ => b"",
+    }
+}
+
 /// Writes how a design is judged in parts.
 fn put_parts_help(out: &mut Lines, case: &Case<'_>) -> Result<(), OutOfMemory> {
     out.put(b"judge the design in parts")?;
@@ -213,7 +224,8 @@ fn put_parts_help(out: &mut Lines, case: &Case<'_>) -> Result<(), OutOfMemory> {
         return Ok(());
     }
     out.put(b": name a smaller `top` in ")?;
-    out.put(clock)
+    out.put(clock)?;
+    out.put(edges_help(case.refusal))
 }
 
 /// The name of a module that may be the top, or what stands for one.

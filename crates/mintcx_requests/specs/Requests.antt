@@ -105,10 +105,15 @@ cells_of None (Some library) clock_cells = Ok (cells.Library library clock_cells
 cells_of None None clock_cells =
     if is_empty clock_cells then Err fault.NoCells else Err fault.ClockCellsWithoutLibrary
 
--- what is made of edges, which are merged where nothing is said; for corners they are merged alone
-abbrev pub edges_for : Asked → Option Edges → Result Edges Fault
-edges_for asked said = if are_apart said && not (has_table asked) then Err fault.EdgesOfCorners
-    else Ok (unwrap_or said edges.Merged)
+-- what is made of edges where nothing is said: kept apart for one design with cells of a library, else merged
+abbrev pub usual_edges : Asked → Cells → Edges
+usual_edges asked (cells.Description file) = edges.Merged
+usual_edges asked (cells.Library file clock_cells) = if has_table asked then edges.Apart else edges.Merged
+
+-- what is made of edges, which for corners are merged alone
+abbrev pub edges_for : Asked → Cells → Option Edges → Result Edges Fault
+edges_for asked kind said = if are_apart said && not (has_table asked) then Err fault.EdgesOfCorners
+    else Ok (unwrap_or said (usual_edges asked kind))
 
 -- the design of four files, or the first fault: of the cells, the netlist, the delays, the clock, the edges
 abbrev pub files_of : Asked → Sources → Result Design Fault
@@ -116,7 +121,7 @@ files_of asked s = and_then (cells_of s.cells s.library s.clock_cells) (λ kind.
     and_then (needed fault.NoNetlist s.netlist) (λ netlist.
     and_then (counted asked s.delays) (λ delays.
     and_then (needed fault.NoClock s.clock) (λ clock.
-    and_then (edges_for asked s.edges) (λ made. Ok (design.Files netlist delays kind clock made))))))
+    and_then (edges_for asked kind s.edges) (λ made. Ok (design.Files netlist delays kind clock made))))))
 
 -- no file but a table is named, and no gate of a library
 abbrev pub names_nothing : Sources → Bool

@@ -3,7 +3,7 @@ ghost use Rattle.std.specs.Prelude.{◌≡◌, ◌≢◌, Some};
 ghost use Rattle.mintcx_requests.specs.Requests.{list_or, first_or, kept, clock_cells_or, names_a_file, merged};
 ghost use Rattle.mintcx_project.specs.Edges.{are_apart};
 ghost use Rattle.mintcx_requests.specs.Requests.{cells_of, counted, edges_for, files_of, lone_table, names_nothing};
-ghost use Rattle.mintcx_requests.specs.Requests.{table_of};
+ghost use Rattle.mintcx_requests.specs.Requests.{table_of, usual_edges};
 ghost use Rattle.mintcx_requests.specs.Requests.{design_of, cycle_in, optimise_of, schedule_of, draw_of, subject_of};
 ghost use Rattle.mintcx_requests.specs.Requests.{task_of, limit_in, manner_of, request_of};
 
@@ -255,14 +255,25 @@ fn are_apart(edges: Option<Edges>) -> bool
     matches!(edges, Some(Edges::Apart))
 }
 
-/// What is made of edges, which are merged where nothing is said.
-fn edges_for(asked: Asked, edges: Option<Edges>) -> Result<Edges, Fault>
-    ensures { result ≡ edges_for asked edges }
+/// What is made of edges where nothing is said: they are kept apart for one design with cells of a library, whose
+/// functions tell which edge leads to which.
+fn usual_edges(asked: Asked, cells: &Cells) -> Edges
+    ensures { result ≡ usual_edges asked cells.now }
+{
+    match cells {
+        Cells::Library { .. } if asked.has_table() => Edges::Apart,
+        _ => Edges::Merged,
+    }
+}
+
+/// What is made of edges.
+fn edges_for(asked: Asked, cells: &Cells, edges: Option<Edges>) -> Result<Edges, Fault>
+    ensures { result ≡ edges_for asked cells.now edges }
 {
     if are_apart(edges) && !asked.has_table() {
         return Err(Fault::EdgesOfCorners);
     }
-    Ok(edges.unwrap_or(Edges::Merged))
+    Ok(edges.unwrap_or(usual_edges(asked, cells)))
 }
 
 /// The design of four files.
@@ -273,7 +284,7 @@ fn files_of(asked: Asked, sources: Sources) -> Result<Design, Fault>
     let netlist = sources.netlist.ok_or(Fault::NoNetlist)?;
     let delays = counted(asked, sources.delays)?;
     let clock = sources.clock.ok_or(Fault::NoClock)?;
-    let edges = edges_for(asked, sources.edges)?;
+    let edges = edges_for(asked, &cells, sources.edges)?;
     Ok(Design::Files {
         netlist,
         delays,

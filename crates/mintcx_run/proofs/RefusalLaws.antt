@@ -1,15 +1,19 @@
 -- Refusals, as they are told.
-use Rattle.std.proofs.Common.{◌≡◌, ◌∙◌, ℕ, Bool, true, false, Option, Result, Ok, Err, IfOk, sym, subst}
+use Rattle.std.proofs.Common.{◌≡◌, ◌∙◌, ℕ, Bool, true, false, Option, Result, Ok, Err, IfOk, sym, subst, inl, inr}
+use Rattle.mintc_text.specs.Outside.{Files}
+use Rattle.mintc_text.specs.declared.refusals.Refusal.TheVariants as refusal
 use Rattle.mintc_text.specs.declared.refusals.Refusal.{Refusal}
 use Rattle.mintc_command_answers.specs.Commands.{roles_of}
 use Rattle.mintcx_json.specs.Refusals.{IsRefusedObject}
 use Rattle.mintcx_json.specs.declared.refusals.Cause.{Cause}
 use Rattle.mintcx_json.specs.declared.refusals.Refused.{Refused as RefusedTold}
+use Rattle.mintcx_refusals.specs.Files.{teller}
 use Rattle.mintcx_refusals.specs.Parts.{HasParts}
 use Rattle.mintcx_refusals.specs.declared.parts.Parts.{Parts}
 use Rattle.mintcx_requests.specs.Requests.{Text}
 use Rattle.mintcx_run.specs.declared.orders.Order.{Order}
-use Rattle.mintcx_run.specs.Replies.{IsCauseOf, IsCornerIn, IsCornerObject, IsCornerText, IsObjectOf, IsObjectText, IsOwnCause, IsRefusalIn, IsRefusalText, IsTextOfCorner, IsTextOfRefusal, command_word, is_object, spotted_of}
+use Rattle.mintcx_run.specs.declared.reply.Reply.{Reply}
+use Rattle.mintcx_run.specs.Replies.{IsCauseOf, IsCornerIn, IsCornerObject, IsCornerReply, IsCornerText, IsObjectOf, IsObjectText, IsOwnCause, IsRefusalIn, IsRefusedFile, IsSaidReply, IsRefusalText, IsTextOfCorner, IsTextOfRefusal, command_word, is_object, spotted_of}
 
 -- what has the parts of a refusal is its object
 pub object_told : {E : Type 0} (r : Result Text E) (told : RefusedTold) (parts : Parts) (cause : Cause) (order : Order) (file : Text) (refused telling placed : Refusal) (own : Option Refusal) →
@@ -53,3 +57,9 @@ pub corner_message_said : {E : Type 0} (r : Result Text E) (order : Order) (file
 corner_message_said r order file corner refused flag same holds h =
     let own : IfOk r (IsCornerIn false order file corner refused) = h in
     subst (λ (b : Bool). IfOk r (IsCornerIn b order file corner refused)) (sym holds ∙ same) own
+
+-- so the reply that the files of a corner are refused
+pub corner_told : {E : Type 0} (said : Result Text E) (files : Option Files) (order : Order) (corner : ℕ) (own : Refusal) (file : Text) (reply : Reply) →
+    IsRefusedFile files order (teller (refusal.Corner corner) own) file → IfOk said (IsCornerText order file corner own) → IsSaidReply order.manner said reply → IsCornerReply files order corner own reply
+corner_told (Ok text) files order corner own file reply of is told = inr (file, text, of, is, told)
+corner_told (Err e) files order corner own file reply of is told = inl told

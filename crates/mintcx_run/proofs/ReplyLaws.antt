@@ -1,5 +1,5 @@
 -- The replies to words, requests and calls.
-use Rattle.std.proofs.Common.{arith, ◌⊎◌, ◌≡◌, ◌+◌, ◌<◌, ◌∙◌, ℕ, List, [], length, get_or, set, ap, Bool, true, false, refl, sym, subst, inl, inr, Option, Some, None, MatchOption, Result, Ok, Err, IfErr, Contains}
+use Rattle.std.proofs.Common.{arith, ◌⊎◌, ◌≡◌, ◌+◌, ◌<◌, ◌∙◌, ℕ, List, [], length, get_or, set, ap, Bool, true, false, refl, sym, subst, inl, inr, Option, Some, None, MatchOption, Result, Ok, Err, IfErr, IfOk, Contains}
 use Rattle.std.proofs.lemmas.List.{set-get_or, set-set}
 use Rattle.std.proofs.lemmas.List.Elements.{Contains-get_or}
 use Rattle.mintc_text.specs.declared.limits.TheConstants.{MOST_BYTES}
@@ -27,7 +27,7 @@ use Rattle.mintcx_apart.specs.declared.apart.Apart.{Apart}
 use Rattle.mintcx_apart.specs.declared.apart.Apart.TheVariants as apart
 use Rattle.mintcx_edges.specs.declared.halt.Halt.{Halt}
 use Rattle.mintcx_run.specs.Apart.{IsMade, IsMadeOf, IsUnmade, in_place, of_table}
-use Rattle.mintcx_run.specs.Replies.{AreUnread, IsAnswered, IsApartReply, IsCallReply, IsCornerReply, IsDesignReply, IsEarlyReply, IsExplanationReply, IsGiven, IsGivenReply, IsHaltReply, IsMadeReply, IsMessage, IsOrdered, IsOtherReply, IsOutOfMemory, IsPageOf, IsPageOfRefusal, IsPlaced, IsRefusalReply, IsRefused, IsReply, IsSettings, IsTakenReply, IsTextsReply, IsUnfitReply, IsUnread, IsWordsReply, NamesNoRefusal, NamesNone, read_as}
+use Rattle.mintcx_run.specs.Replies.{AreUnread, IsAnswered, IsApartReply, IsCallReply, IsCornerReply, IsDesignReply, IsEarlyReply, IsExplanationReply, IsGiven, IsGivenReply, IsHaltReply, IsMadeReply, IsMessage, IsOrderOf, IsOrdered, IsOtherReply, IsOutOfMemory, IsPageOf, IsPageOfRefusal, IsPlaced, IsRefusalReply, IsRefused, IsReply, IsSettings, IsTakenReply, IsTextsReply, IsUnfitReply, IsUnread, IsWordsReply, NamesNoRefusal, NamesNone, read_as}
 use Rattle.mintc_command_answers.specs.Sources.{file_at}
 use Rattle.mintcx_run.specs.Taken.{AreTaken, IsTaken, is_asked}
 use Rattle.mintcx_run.specs.Warned.{AreAllWarned, AreClampsTold}
@@ -49,6 +49,12 @@ pub page_of_warning : {T : Type 0} (page : Option T) (text : T → Text) (topic 
     MatchOption page (NamesNoWarning topic) (λ (x : T). IsWarningPage topic (text x)) → MatchOption page (NamesNone topic) (λ (x : T). IsPageOf topic (text x))
 page_of_warning None text topic none h = (none, h)
 page_of_warning (Some x) text topic none h = inr h
+
+-- the call that is asked for
+pub ordered : (r : Result Order Reply) (given : Given) (files : Option Files) (settings : Settings) (asked : Request) → IsSettings files given.project settings → request_of given settings ≡ Ok asked →
+    IfOk r (IsOrderOf asked) → IfOk r (IsOrdered given files)
+ordered (Ok order) given files settings asked said is h = record { settings = settings; asked = asked; said = said; requested = is; is_order = h }
+ordered (Err reply) given files settings asked said is h = tt
 
 -- so the request has no call
 pub early_gap : (r : Result Order Reply) (given : Given) (files : Option Files) (settings : Settings) (asked : Request) → IsSettings files given.project settings → request_of given settings ≡ Ok asked →

@@ -204,7 +204,7 @@ fn unsaid_reply(alloc: Global, obstacle: &Obstacle) -> Reply
     ensures no_fault { result.status ≢ WriteFault }
     ensures no_read { result.status ≢ ReadFault }
 {
-    match format!(in alloc; "edges can't be kept apart: {obstacle}") {
+    match format!(in alloc; "edges can't be kept apart: {obstacle}; give '--edges merged'") {
         Ok(said) => Reply::message(alloc, Status::Found, &said),
         Err(_) => Reply::out_of_memory(alloc),
     }

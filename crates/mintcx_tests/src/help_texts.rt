@@ -32,7 +32,7 @@ A design is four files or one table, named by options or once in mintc.toml:
   sdf = \"delays.sdf\"
   lib = \"cells.lib\"       # or: cells = \"cells.toml\"
   clock = \"clock.toml\"
-  edges = \"apart\"         # or: edges = \"merged\", as where it isn't there
+  edges = \"apart\"         # or: edges = \"merged\", as with cells where it isn't there
 
 Status:
   0  an answer
@@ -65,8 +65,8 @@ Design:
       --clock-cell <CELL>  With --lib: this gate of one input and one output carries the clock alone
       --clock <FILE>       Phases, bounds and listed ports, in TOML
       --table <FILE>       One table in place of the four files
-      --edges <WORD>       apart takes rising and falling delays each by itself: a cycle never longer [default: merged] \
-      [possible values: merged, apart]
+      --edges <WORD>       apart takes rising and falling delays each by itself: a cycle never longer \
+      [default: apart with --lib, merged with --cells] [possible values: merged, apart]
       --clamp-negative     Take 0 for each delay below 0, and warn: safe for setups, not for holds
 
 Answer:
@@ -101,8 +101,8 @@ Design:
       --clock-cell <CELL>  With --lib: this gate of one input and one output carries the clock alone
       --clock <FILE>       Phases, bounds and listed ports, in TOML
       --table <FILE>       One table in place of the four files
-      --edges <WORD>       apart takes rising and falling delays each by itself: a cycle never longer [default: merged] \
-      [possible values: merged, apart]
+      --edges <WORD>       apart takes rising and falling delays each by itself: a cycle never longer \
+      [default: apart with --lib, merged with --cells] [possible values: merged, apart]
       --clamp-negative     Take 0 for each delay below 0, and warn: safe for setups, not for holds
 
 Answer:
@@ -137,8 +137,8 @@ Design:
       --clock-cell <CELL>  With --lib: this gate of one input and one output carries the clock alone
       --clock <FILE>       Phases, bounds and listed ports, in TOML
       --table <FILE>       One table in place of the four files
-      --edges <WORD>       apart takes rising and falling delays each by itself: a cycle never longer [default: merged] \
-      [possible values: merged, apart]
+      --edges <WORD>       apart takes rising and falling delays each by itself: a cycle never longer \
+      [default: apart with --lib, merged with --cells] [possible values: merged, apart]
       --clamp-negative     Take 0 for each delay below 0, and warn: safe for setups, not for holds
 
 Answer:
@@ -169,8 +169,8 @@ Design:
       --clock-cell <CELL>  With --lib: this gate of one input and one output carries the clock alone
       --clock <FILE>       Phases, bounds and listed ports, in TOML
       --table <FILE>       One table in place of the four files
-      --edges <WORD>       apart takes rising and falling delays each by itself: a cycle never longer [default: merged] \
-      [possible values: merged, apart]
+      --edges <WORD>       apart takes rising and falling delays each by itself: a cycle never longer \
+      [default: apart with --lib, merged with --cells] [possible values: merged, apart]
       --clamp-negative     Take 0 for each delay below 0, and warn: safe for setups, not for holds
 
 Answer:
@@ -202,8 +202,8 @@ Design:
       --clock-cell <CELL>  With --lib: this gate of one input and one output carries the clock alone
       --clock <FILE>       Phases, bounds and listed ports, in TOML
       --table <FILE>       One table in place of the four files
-      --edges <WORD>       apart takes rising and falling delays each by itself: a cycle never longer [default: merged] \
-      [possible values: merged, apart]
+      --edges <WORD>       apart takes rising and falling delays each by itself: a cycle never longer \
+      [default: apart with --lib, merged with --cells] [possible values: merged, apart]
       --clamp-negative     Take 0 for each delay below 0, and warn: safe for setups, not for holds
 
 Answer:
@@ -237,8 +237,8 @@ Design:
       --clock-cell <CELL>  With --lib: this gate of one input and one output carries the clock alone
       --clock <FILE>       Phases, bounds and listed ports, in TOML
       --table <FILE>       One table in place of the four files
-      --edges <WORD>       apart takes rising and falling delays each by itself: a cycle never longer [default: merged] \
-      [possible values: merged, apart]
+      --edges <WORD>       apart takes rising and falling delays each by itself: a cycle never longer \
+      [default: apart with --lib, merged with --cells] [possible values: merged, apart]
       --clamp-negative     Take 0 for each delay below 0, and warn: safe for setups, not for holds
 
 Answer:
@@ -269,8 +269,7 @@ Design:
       --lib <FILE>         The same from a Liberty library
       --clock-cell <CELL>  With --lib: this gate of one input and one output carries the clock alone
       --clock <FILE>       Phases, bounds and listed ports, in TOML
-      --edges <WORD>       apart takes rising and falling delays each by itself: a cycle never longer [default: merged] \
-      [possible values: merged, apart]
+      --edges <WORD>       merged alone: corners are taken without edges apart [possible values: merged, apart]
       --clamp-negative     Take 0 for each delay below 0, and warn: safe for setups, not for holds
 
 Answer:
@@ -307,8 +306,8 @@ Design:
       --clock-cell <CELL>  With --lib: this gate of one input and one output carries the clock alone
       --clock <FILE>       Phases, bounds and listed ports, in TOML
       --table <FILE>       One table in place of the four files
-      --edges <WORD>       apart takes rising and falling delays each by itself: a cycle never longer [default: merged] \
-      [possible values: merged, apart]
+      --edges <WORD>       apart takes rising and falling delays each by itself: a cycle never longer \
+      [default: apart with --lib, merged with --cells] [possible values: merged, apart]
       --clamp-negative     Take 0 for each delay below 0, and warn: safe for setups, not for holds
 
 Answer:
@@ -343,8 +342,8 @@ Design:
       --clock-cell <CELL>  With --lib: this gate of one input and one output carries the clock alone
       --clock <FILE>       Phases, bounds and listed ports, in TOML
       --table <FILE>       One table in place of the four files
-      --edges <WORD>       apart takes rising and falling delays each by itself: a cycle never longer [default: merged] \
-      [possible values: merged, apart]
+      --edges <WORD>       apart takes rising and falling delays each by itself: a cycle never longer \
+      [default: apart with --lib, merged with --cells] [possible values: merged, apart]
       --clamp-negative     Take 0 for each delay below 0, and warn: safe for setups, not for holds
 
 Answer:
@@ -380,8 +379,8 @@ Design:
       --clock-cell <CELL>  With --lib: this gate of one input and one output carries the clock alone
       --clock <FILE>       Phases, bounds and listed ports, in TOML
       --table <FILE>       One table in place of the four files
-      --edges <WORD>       apart takes rising and falling delays each by itself: a cycle never longer [default: merged] \
-      [possible values: merged, apart]
+      --edges <WORD>       apart takes rising and falling delays each by itself: a cycle never longer \
+      [default: apart with --lib, merged with --cells] [possible values: merged, apart]
       --clamp-negative     Take 0 for each delay below 0, and warn: safe for setups, not for holds
 
 Answer:
@@ -412,8 +411,8 @@ Design:
       --clock-cell <CELL>  With --lib: this gate of one input and one output carries the clock alone
       --clock <FILE>       Phases, bounds and listed ports, in TOML
       --table <FILE>       One table in place of the four files
-      --edges <WORD>       apart takes rising and falling delays each by itself: a cycle never longer [default: merged] \
-      [possible values: merged, apart]
+      --edges <WORD>       apart takes rising and falling delays each by itself: a cycle never longer \
+      [default: apart with --lib, merged with --cells] [possible values: merged, apart]
       --clamp-negative     Take 0 for each delay below 0, and warn: safe for setups, not for holds
 
 Answer:

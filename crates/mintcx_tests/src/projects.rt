@@ -19,7 +19,11 @@ const CORNERS: &str =
 
 /// A project file with edges apart.
 const EDGES: &str =
-    "[design]\nnetlist = \"n.v\"\nsdf = \"d.sdf\"\nlib = \"c.lib\"\nclock = \"k.toml\"\nedges = \"apart\"\n";
+    "[design]\nnetlist = \"n.v\"\nsdf = \"d.sdf\"\ncells = \"c.toml\"\nclock = \"k.toml\"\nedges = \"apart\"\n";
+
+/// A project file with edges merged.
+const MERGED: &str =
+    "[design]\nnetlist = \"n.v\"\nsdf = \"d.sdf\"\nclock = \"k.toml\"\nedges = \"merged\"\n";
 
 /// Words, the project file's path and text, and the request or the message.
 const ROWS: &[(&str, &str, &str, &str)] = &[
@@ -27,15 +31,15 @@ const ROWS: &[(&str, &str, &str, &str)] = &[
         "mintcx optimise",
         "mintc.toml",
         FILES,
-        "optimise - 0; netlist.v sdf delays.sdf lib osu035.lib INVX8 /k/clock.toml; false; Text Ps 10 - false Full \
-         Auto",
+        "optimise - 0; netlist.v sdf delays.sdf lib osu035.lib INVX8 /k/clock.toml apart; false; Text Ps 10 - false \
+         Full Auto",
     ),
     (
         "mintcx optimise -p chip/mintc.toml --unit auto --sdf other.sdf",
         "chip/mintc.toml",
         FILES,
-        "optimise - 0; chip/netlist.v sdf other.sdf lib chip/osu035.lib INVX8 /k/clock.toml; false; Text Auto 10 - \
-         false Full Auto",
+        "optimise - 0; chip/netlist.v sdf other.sdf lib chip/osu035.lib INVX8 /k/clock.toml apart; false; Text Auto \
+         10 - false Full Auto",
     ),
     (
         "mintcx optimise --cells c.toml",
@@ -54,12 +58,18 @@ const ROWS: &[(&str, &str, &str, &str)] = &[
         "mintcx safe",
         "mintc.toml",
         EDGES,
-        "safe; n.v sdf d.sdf lib c.lib k.toml apart; false; Text Auto 10 - false Full Auto",
+        "safe; n.v sdf d.sdf cells c.toml k.toml apart; false; Text Auto 10 - false Full Auto",
     ),
     (
         "mintcx safe --edges merged",
         "mintc.toml",
         EDGES,
+        "safe; n.v sdf d.sdf cells c.toml k.toml; false; Text Auto 10 - false Full Auto",
+    ),
+    (
+        "mintcx safe --lib c.lib",
+        "mintc.toml",
+        MERGED,
         "safe; n.v sdf d.sdf lib c.lib k.toml; false; Text Auto 10 - false Full Auto",
     ),
     (

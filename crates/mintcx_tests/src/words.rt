@@ -16,7 +16,7 @@ const ROWS: &[(&str, &str)] = &[
     ),
     (
         "mintcx slack --netlist top.v --sdf top.sdf --lib osu035.lib --clock-cell INVX8 --clock clock.toml --limit 20",
-        "slack false; top.v sdf top.sdf lib osu035.lib INVX8 clock.toml; false; Text Auto 20 - false Full Auto",
+        "slack false; top.v sdf top.sdf lib osu035.lib INVX8 clock.toml apart; false; Text Auto 20 - false Full Auto",
     ),
     (
         "mintcx report --table loop.table --limit all",
@@ -44,11 +44,23 @@ const ROWS: &[(&str, &str)] = &[
     ),
     (
         "mintcx table --netlist n.v --sdf d.sdf --lib c.lib --clock k.toml --clamp-negative -o n.table",
-        "table; n.v sdf d.sdf lib c.lib k.toml; true; Text Auto 10 n.table false Full Auto",
+        "table; n.v sdf d.sdf lib c.lib k.toml apart; true; Text Auto 10 n.table false Full Auto",
     ),
     (
-        "mintcx table --netlist n.v --sdf d.sdf --lib c.lib --clock k.toml --edges apart",
-        "table; n.v sdf d.sdf lib c.lib k.toml apart; false; Text Auto 10 - false Full Auto",
+        "mintcx table --netlist n.v --sdf d.sdf --lib c.lib --clock k.toml --edges merged",
+        "table; n.v sdf d.sdf lib c.lib k.toml; false; Text Auto 10 - false Full Auto",
+    ),
+    (
+        "mintcx table --netlist n.v --sdf d.sdf --cells c.toml --clock k.toml",
+        "table; n.v sdf d.sdf cells c.toml k.toml; false; Text Auto 10 - false Full Auto",
+    ),
+    (
+        "mintcx table --netlist n.v --sdf d.sdf --cells c.toml --clock k.toml --edges apart",
+        "table; n.v sdf d.sdf cells c.toml k.toml apart; false; Text Auto 10 - false Full Auto",
+    ),
+    (
+        "mintcx corners --netlist n.v --sdf hot.sdf --sdf cold.sdf --lib c.lib --clock k.toml",
+        "corners; n.v sdf hot.sdf cold.sdf lib c.lib k.toml; false; Text Auto 10 - false Full Auto",
     ),
     (
         "mintcx corners --netlist n.v --sdf hot.sdf --sdf cold.sdf --cells c.toml --clock k.toml --edges merged",

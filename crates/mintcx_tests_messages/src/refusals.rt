@@ -63,6 +63,12 @@ const TOO_MANY: &str =
  = note: `refused 17 scopes 1000001`; `mintcx explain 17` says more
 ";
 
+const TWICE: &str =
+    "error[17]: the design has 40,002 latches, flops and listed ports, and at most 20,000 are taken
+ = help: judge the design in parts: name a smaller `top` in clock.toml; with edges apart `--edges merged` takes half
+ = note: `refused 17 elements 40002`; `mintcx explain 17` says more
+";
+
 fn names(alloc: Global) -> Result<Vec<Name>, OutOfMemory> {
     let mut names = Vec::new(alloc);
     names.push(Name::new(alloc, b"top.v")?)?;
@@ -294,6 +300,11 @@ fn no_place_is_shown_where_none_is_known(rt: HostRuntime) -> Result<(), OutOfMem
         count: 1_000_001,
     };
     assert!(rt; is_told(alloc, &many, "", TOO_MANY)?);
+    let twice = Refusal::Limit {
+        kind: Kind::Elements,
+        count: 40_002,
+    };
+    assert!(rt; is_told(alloc, &twice, "", TWICE)?);
     Ok(())
 }
 

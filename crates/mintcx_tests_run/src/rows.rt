@@ -543,7 +543,7 @@ const FILES: Rows = Rows {
             LEAST_OF_FILES,
         ),
         (
-            "mintcx optimise --netlist two.v --sdf two.sdf --lib two.lib --clock clock.toml",
+            "mintcx optimise --netlist two.v --sdf two.sdf --lib two.lib --clock clock.toml --edges merged",
             LEAST_OF_LIBRARY,
         ),
         (
@@ -607,7 +607,7 @@ warning: 1 port of the top is in no list: 1 output
 |",
         ),
         (
-            "mintcx schedule --netlist two.v --sdf two.sdf --lib two.lib --clock-cell BUF --clock clock.toml",
+            "mintcx schedule --netlist two.v --sdf two.sdf --lib two.lib --clock-cell BUF --clock clock.toml --edges merged",
             "0|schedule 1
 den 1
 cycle 0
@@ -746,7 +746,7 @@ const RING: Rows = Rows {
     ],
     rows: &[
         (
-            "mintcx schedule --netlist ring.v --sdf ring.sdf --lib ring.lib --clock ring.toml",
+            "mintcx schedule --netlist ring.v --sdf ring.sdf --lib ring.lib --clock ring.toml --edges merged",
             "0|schedule 1\nden 1\ncycle 90\nphases 2\nphase 0 5\nphase 5 70\nend\n||",
         ),
         (
@@ -754,11 +754,11 @@ const RING: Rows = Rows {
             "0|schedule 1\nden 1\ncycle 80\nphases 2\nphase 0 15\nphase 15 60\nend\n||",
         ),
         (
-            "mintcx table --netlist ring.v --sdf ring.sdf --lib ring.lib --clock ring.toml --edges apart",
+            "mintcx table --netlist ring.v --sdf ring.sdf --lib ring.lib --clock ring.toml",
             RING_APART,
         ),
         (
-            "mintcx sdc apart.schedule --netlist ring.v --sdf ring.sdf --lib ring.lib --clock ring.toml --edges apart",
+            "mintcx sdc apart.schedule --netlist ring.v --sdf ring.sdf --lib ring.lib --clock ring.toml",
             "0|# mintcx 0.1.0: clocks of two from apart.schedule, a cycle of 80 fs
 # All numbers are in ns, exactly; read this where the library's time unit is 1 ns.
 set_units -time ns
@@ -767,20 +767,25 @@ create_clock -name {p2} -period 0.00008 -waveform {0.000015 0.000075} [get_ports
 ||",
         ),
         (
-            "mintcx check three.schedule --netlist ring.v --sdf ring.sdf --lib ring.lib --clock ring.toml --edges apart --format plain",
+            "mintcx check three.schedule --netlist ring.v --sdf ring.sdf --lib ring.lib --clock ring.toml --format plain",
             "2|refused 19 2 3\n||",
         ),
         (
-            "mintcx check apart.schedule --netlist ring.v --sdf ring.sdf --lib ring.lib --clock ring.toml --edges apart --format plain",
-            "0|pass\ncycle 80/1\n||",
+            "mintcx check apart.schedule --netlist ring.v --sdf ring.sdf --lib ring.lib --clock ring.toml --format plain",
+            "0|pass
+element a/r late 0/1 early 0/1
+element a/f late 10/1 early 10/1
+element b/r late 45/1 early 45/1
+element b/f late 55/1 early 55/1
+||",
         ),
         (
-            "mintcx safe --netlist ring.v --sdf ring.sdf --lib ring.lib --clock ring.toml --clock-cell X --edges apart",
+            "mintcx safe --netlist ring.v --sdf ring.sdf --lib ring.lib --clock ring.toml --clock-cell X",
             "3||error: '--clock-cell X' names no cell of the library\n|",
         ),
         (
-            "mintcx optimise --netlist ring.v --sdf ring.v --lib ring.lib --clock ring.toml --edges apart --errors short",
-            "2||ring.v:1:1: error[1]: this part of the delays isn't read\n|",
+            "mintcx optimise --netlist ring.v --sdf ring.v --lib ring.lib --clock ring.toml --errors short",
+            "2||ring.v: error[1]: this part of the delays isn't read\n|",
         ),
     ],
 };

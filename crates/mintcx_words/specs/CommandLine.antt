@@ -25,6 +25,10 @@ abbrev pub flag_rule : Text → Rule
 flag_rule name = record (new_rule name) { long = Some name; action = Some SetTrue }
 
 -- an option with one of some words
+abbrev pub word_rule : Text → Bor (List (Bor Text)) → Rule
+word_rule name words = record (option_rule name) { parser = Some (parser.Names words) }
+
+-- the same, with the word that stands where the option isn't given
 abbrev pub choice_rule : Text → Text → Bor (List (Bor Text)) → Rule
 choice_rule name default words =
     record (option_rule name) { defaults = default ∷ []; parser = Some (parser.Names words) }
@@ -47,7 +51,7 @@ front_rules asked = record (option_rule (codes "project")) { short = Some 112 } 
 
 -- the options of how delays are taken, and edges
 abbrev pub taking_rules : Choices → List Rule
-taking_rules words = choice_rule (codes "edges") (codes "merged") words.edges ∷ flag_rule (codes "clamp-negative") ∷ []
+taking_rules words = word_rule (codes "edges") words.edges ∷ flag_rule (codes "clamp-negative") ∷ []
 
 -- the last options that name a design
 abbrev pub back_rules : Choices → Asked → List Rule

@@ -1,9 +1,10 @@
 //! The command line, as clap takes it.
-ghost use Rattle.std.specs.Prelude.{◌≡◌, ◌∷◌, [], true, false, map, string_bytes, IfOk};
+ghost use Rattle.std.specs.Prelude.{◌≡◌, ◌∷◌, [], true, false, codes, map, string_bytes, IfOk};
 ghost use Rattle.clap.specs.Words.{app_of, rule_of};
 ghost use Rattle.clap.specs.declared.builder.command.Command.TheViews.{out-Command};
 ghost use Rattle.mintcx_words.specs.CommandLine.{option_rule, flag_rule, choice_rule, subject_rule, delays_rule};
 ghost use Rattle.mintcx_words.specs.CommandLine.{front_rules, back_rules, form_rules, limit_rules, output_rules};
+ghost use Rattle.mintcx_words.specs.CommandLine.{word_rule};
 ghost use Rattle.mintcx_words.specs.CommandLine.{own_rules, bare, with_rules, with_design, with_answer, common};
 ghost use Rattle.mintcx_words.specs.CommandLine.{command_of, bare_program, with_command, program_of, HasWords};
 ghost use Rattle.mintcx_words.specs.Lines.{AreLocal, AreRules, IsCommandLine, IsParse};
@@ -31,7 +32,7 @@ const AFTER_HELP: &str =
   sdf = \"delays.sdf\"
   lib = \"cells.lib\"       # or: cells = \"cells.toml\"
   clock = \"clock.toml\"
-  edges = \"apart\"         # or: edges = \"merged\", as where it isn't there
+  edges = \"apart\"         # or: edges = \"merged\", as with cells where it isn't there
 
 Status:
   0  an answer
@@ -183,6 +184,20 @@ fn front_args<'a>(alloc: Global, asked: Asked) -> Result<Vec<Arg<'a>>, AllocErro
     ]?)
 }
 
+/// The option of edges, which says nothing where it isn't given.
+fn edge_choice<'a>(alloc: Global, words: &'a [&'a str], asked: Asked) -> Arg<'a>
+    ensures rule { rule_of result ≡ word_rule (codes "edges") words.entry }
+    ensures local { result.global ≡ false }
+{
+    let help = if asked.has_table() {
+        "apart takes rising and falling delays each by itself: a cycle never longer \
+        [default: apart with --lib, merged with --cells]"
+    } else {
+        "merged alone: corners are taken without edges apart"
+    };
+    part(alloc, "edges", "WORD", help).value_parser(words)
+}
+
 /// The last options that name a design.
 fn back_args<'a>(
     alloc: Global,
@@ -191,15 +206,7 @@ fn back_args<'a>(
 ) -> Result<Vec<Arg<'a>>, AllocError>
     ensures { IfOk result (λ v. AreRules (back_rules words.entry asked) v.items) }
 {
-    let edges = choice(
-        alloc,
-        "edges",
-        "WORD",
-        words.edges,
-        "merged",
-        "apart takes rising and falling delays each by itself: a cycle never longer",
-    )
-    .help_heading("Design");
+    let edges = edge_choice(alloc, words.edges, asked);
     let clamp = flag(
         alloc,
         "clamp-negative",

@@ -1,5 +1,5 @@
 use Rattle.std.proofs.lemmas.Result.{err_from_is_err_and}
-use Rattle.mintcx_run.proofs.ReplyLaws.{early_gap}
+use Rattle.mintcx_run.proofs.ReplyLaws.{early_gap, ordered}
 use Rattle.mintcx_run.proofs.orders.order_for.Goals as goal
 
 pub returns-in_err-settings-clause-no_fault : goal.returns-in_err-settings-clause-no_fault
@@ -15,3 +15,7 @@ returns-in_err-settings-clause-cause g c =
 pub returns-clause-reply : goal.returns-clause-reply
 returns-clause-reply g c =
     early_gap c.order_of.result c.args.given _ c.in_ok-settings.settings c.in_ok-asked.asked c.in_ok-settings.ensures.value c.in_ok-asked.ensures.value c.order_of.ensures.reply
+
+pub returns-clause-value : goal.returns-clause-value
+returns-clause-value g c =
+    ordered c.order_of.result c.args.given _ c.in_ok-settings.settings c.in_ok-asked.asked c.in_ok-settings.ensures.value c.in_ok-asked.ensures.value c.order_of.ensures.value
