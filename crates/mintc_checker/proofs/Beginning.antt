@@ -5,11 +5,10 @@ use Rattle.std.proofs.lemmas.Bool.{cases_eq}
 use Rattle.mintc_timing.specs.Departures.{departure}
 use Rattle.mintc_timing.specs.Design.{Design, element_at}
 use Rattle.mintc_timing.specs.Paths.{Leads, output_of}
-use Rattle.mintc_checker.specs.declared.course.Places.{Places}
 use Rattle.mintc_checker.specs.declared.labels.Labels.{Labels}
 use Rattle.mintc_checker.specs.Trails.{IsGreatestTime, LeadsFrom, time_along}
 use Rattle.mintc_lanes.specs.Lanes.{lane_at}
-use Rattle.mintc_checker.specs.Course.{place_at, AreOutputPlaces, IsOutput}
+use Rattle.mintc_checker.specs.Course.{place_at, IsOutput}
 use Rattle.mintc_checker.specs.Labels.{labels_at, label_at, AreRows, IsRowOf, IsStart}
 use Rattle.mintc_checker.proofs.Greatest.{greatest_of_none, greatest_of_one}
 

@@ -10,7 +10,6 @@ mod Pairing
 mod Fed
 mod Exact
 mod Placing
-mod Lasts
 mod Sharing
 mod Placed
 mod Holding

@@ -9,7 +9,7 @@ use Rattle.mintc_checker.specs.declared.labels.Labels.{Labels}
 use Rattle.mintc_checker.specs.declared.labels.TheConstants.{NO_LABELS}
 use Rattle.mintc_checker.specs.declared.course.Course.{Course}
 use Rattle.mintc_checker.specs.Course.{place_at, placed, AreInside, IsCourse, IsOutput}
-use Rattle.mintc_checker.specs.Labels.{labels_at, label_at, no_labels, AreRows, IsStart}
+use Rattle.mintc_checker.specs.Labels.{labels_at, no_labels, AreRows, IsStart}
 
 pub length-placed : (places : List ℕ) (rows : List Labels) → length (placed places rows) ≡ length places
 length-placed places rows = length-map places (labels_at rows)

@@ -1,5 +1,5 @@
 -- Places of bits as they are given, and steps from place to place.
-use Rattle.std.proofs.Common.{◌≡◌, ◌≢◌, ℕ, ◌<◌, ◌≤◌, ◌+◌, ◌*◌, List, [], ◌∷◌, ◌++◌, length, get_or, set, replicate, length-set, get_or-set_same, get_or-set_other, arith, ap, refl, ◌∙◌, sym, ⊎_elim, inl, inr, subst}
+use Rattle.std.proofs.Common.{◌≡◌, ◌≢◌, ℕ, ◌<◌, ◌≤◌, ◌+◌, ◌*◌, List, [], ◌∷◌, length, get_or, set, replicate, length-set, get_or-set_same, get_or-set_other, arith, ap, refl, ◌∙◌, sym, ⊎_elim, subst}
 use Rattle.std.proofs.lemmas.Bool.{cases_eq}
 use Rattle.std.proofs.lemmas.List.{get_or-map, get_or-replicate, get_or_past, length-replicate, length-append}
 use Rattle.std.proofs.Math.ListN.{length-map}

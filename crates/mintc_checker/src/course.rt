@@ -5,7 +5,7 @@ ghost use Rattle.std.specs.Prelude.{◌≡◌, ◌≢◌, ◌+◌, ◌-◌, ◌*
 ghost use Rattle.mintc_timing.specs.Limits.{IsDelay};
 ghost use Rattle.mintc_timing.specs.Order.{IsOrder};
 ghost use Rattle.mintc_checker.specs.Course.{bare, moved, place_at, step_at, AreApart, AreLasts, AreOrdered, ArePlaces};
-ghost use Rattle.mintc_checker.specs.Course.{AreSteps, IsBetween, IsCourse, IsEntry, IsExit, IsGiven, IsOutput};
+ghost use Rattle.mintc_checker.specs.Course.{AreSteps, IsCourse, IsEntry, IsExit, IsGiven, IsOutput};
 
 use crate::reading::arc_at_place;
 use mintc_text::OutOfMemory;

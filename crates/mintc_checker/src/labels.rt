@@ -1,4 +1,4 @@
-//! Labels of phases at all bits: when data comes there at the latest.
+//! Labels of phases at bits: when data comes there at the latest.
 ghost use Rattle.std.specs.Prelude.{◌≡◌, ◌≢◌, ◌+◌, ◌*◌, ◌^◌, ◌<◌, ◌≤◌, ◌+ℤ◌, ◌*ℤ◌, ℕ, length, None, Some, IfOk, IsTrue, All};
 ghost use Rattle.std.specs.Prelude.{unsigned_abs};
 ghost use Rattle.std.specs.Int.{int_max};
@@ -31,7 +31,7 @@ pub(crate) struct Labels {
 /// The labels where no trail leads.
 pub(crate) const NO_LABELS: Labels = Labels { lanes: [ABSENT; 8] };
 
-/// The labels at all bits, seen as their list.
+/// Labels by bits, seen as their list. Those of a bit that some arc leaves are dropped once they are carried on.
 #[derive(Drop)]
 pub(crate) struct LabelTable {
     /// For each bit the place of its labels.
@@ -233,7 +233,7 @@ fn fill(rows: &mut [Labels], departing: &DepartingDesign<'_>, order: &Order, cou
     carry_all(rows, departing, order, course);
 }
 
-/// The labels at all bits.
+/// The labels at the inputs of all elements.
 #[tactic(auto, using(crate::proofs::Placed::AreInside_given))]
 pub(crate) fn labels_of(
     alloc: Global,

@@ -1,4 +1,4 @@
-use Rattle.std.proofs.Common.{◌<◌, ◌+◌, ◌*◌, ◌∙◌, length, arith}
+use Rattle.std.proofs.Common.{◌<◌, ◌∙◌, length, arith}
 use Rattle.std.proofs.lemmas.Grind.{common_steps}
 use Rattle.mintc_timing.specs.Paths.{output_of}
 use Rattle.mintc_checker.proofs.Placing.{entry_count, entry_given, outputs_more, others_more, AreApart-entered}

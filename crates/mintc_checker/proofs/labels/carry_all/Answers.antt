@@ -1,4 +1,4 @@
-use Rattle.std.proofs.Common.{◌≡◌, ◌≢◌, ◌<◌, ℕ, length, get_or, arith, ap, ◌∙◌, sym, subst, ◌*ℤ◌, false}
+use Rattle.std.proofs.Common.{◌≡◌, ◌<◌, ℕ, length, get_or, arith, ap, ◌∙◌, subst, ◌*ℤ◌, false}
 use Rattle.std.proofs.lemmas.Grind.{common_steps}
 use Rattle.std.proofs.lemmas.List.{get_or_default}
 use Rattle.mintc_timing.specs.Design.{no_arc}
@@ -6,7 +6,7 @@ use Rattle.mintc_timing.specs.Limits.{IsArc}
 use Rattle.mintc_timing.specs.Paths.{arc_at}
 use Rattle.mintc_timing.proofs.SharedOrdered.{inside}
 use Rattle.mintc_checker.specs.declared.course.Step.{Step}
-use Rattle.mintc_checker.specs.Course.{bare, moved, no_step, place_at, step_at, IsMarked, IsStep}
+use Rattle.mintc_checker.specs.Course.{bare, moved, no_step, step_at, IsStep}
 use Rattle.mintc_checker.specs.Labels.{IsAlong}
 use Rattle.mintc_checker.specs.Rows.{AreRowsAlong}
 use Rattle.mintc_checker.proofs.Holding.{AreRows-carried, right_from, right_to}
