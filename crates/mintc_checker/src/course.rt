@@ -1,7 +1,8 @@
-//! The arcs of a design in their order, each from place to place. A bit gets a place when the first arc comes to it, and
-//! gives it back with the last arc that leaves it: so labels which are carried one after another stand near each other
-//! in memory, and there are no more of them than are needed at one time.
-ghost use Rattle.std.specs.Prelude.{◌≡◌, ◌≢◌, ◌+◌, ◌-◌, ◌*◌, ◌^◌, ◌<◌, ◌≤◌, ℕ, false, length, slice_index_or, IfOk, OnOk};
+//! The arcs of a design in their order, each from place to place. A bit gets a place when the first arc comes to it,
+//! and gives it back with the last arc that leaves it: so labels which are carried one after another stand near each
+//! other in memory, and there are no more of them than are needed at one time.
+ghost use Rattle.std.specs.Prelude.{◌≡◌, ◌≢◌, ◌+◌, ◌-◌, ◌*◌, ◌^◌, ◌<◌, ◌≤◌};
+ghost use Rattle.std.specs.Prelude.{ℕ, false, length, slice_index_or, IfOk, OnOk};
 ghost use Rattle.mintc_timing.specs.Limits.{IsDelay};
 ghost use Rattle.mintc_timing.specs.Order.{IsOrder};
 ghost use Rattle.mintc_checker.specs.Course.{bare, moved, place_at, step_at, AreApart, AreLasts, AreOrdered, ArePlaces};

@@ -1,6 +1,6 @@
 //! Labels of phases at bits: when data comes there at the latest.
-ghost use Rattle.std.specs.Prelude.{◌≡◌, ◌≢◌, ◌+◌, ◌*◌, ◌^◌, ◌<◌, ◌≤◌, ◌+ℤ◌, ◌*ℤ◌, ℕ, length, None, Some, IfOk, IsTrue, All};
-ghost use Rattle.std.specs.Prelude.{unsigned_abs};
+ghost use Rattle.std.specs.Prelude.{◌≡◌, ◌≢◌, ◌+◌, ◌*◌, ◌^◌, ◌<◌, ◌≤◌, ◌+ℤ◌, ◌*ℤ◌};
+ghost use Rattle.std.specs.Prelude.{ℕ, length, None, Some, IfOk, IsTrue, All, unsigned_abs};
 ghost use Rattle.std.specs.Int.{int_max};
 ghost use Rattle.mintc_lanes.specs.Lanes.{lane_at, AreJoined, AreLanes};
 ghost use Rattle.mintc_timing.specs.Departures.{departure};
@@ -194,7 +194,8 @@ fn carry_step(rows: &mut [Labels], departing: &DepartingDesign<'_>, step: Step)
 /// Drops the labels at a place after the last step that leaves its bit.
 fn finish(rows: &mut [Labels], place: u32, is_last: bool)
     requires { place < length rows.old }
-    ensures others { (other : ℕ) → (IsTrue is_last → other ≢ place) → labels_at rows.new other ≡ labels_at rows.old other }
+    ensures others { (other : ℕ) → (IsTrue is_last → other ≢ place) →
+        labels_at rows.new other ≡ labels_at rows.old other }
     ensures none { IsTrue is_last → (lane : ℕ) → lane < 8 → label_at rows.new place lane ≡ None }
 {
     if is_last {
