@@ -14,6 +14,10 @@ use Rattle.mintc_slack.proofs.GapLaws.{made}
 pub gap-read : (gaps : List ReducedCost) (place : ℕ) (g : ReducedCost) → place < length gaps → g ≡ get_or gaps place g → g ≡ gap_at gaps place
 gap-read gaps place g below is = is ∙ get_or_default gaps place g (made 0 (pos 0) 0) below
 
+-- which is inside with all
+pub gap-inside : (count : ℕ) (gaps : List ReducedCost) (place : ℕ) (g : ReducedCost) → All (IsInside count) gaps → place < length gaps → g ≡ get_or gaps place g → IsInside count g
+gap-inside count gaps place g all below is = subst (IsInside count) (sym (gap-read gaps place g below is)) (all place (made 0 (pos 0) 0) below)
+
 -- one gap more in its row
 module _ (gaps : List ReducedCost) (firsts : List ℕ) (place : ℕ) (before : (k : ℕ) → k < place → IsInRow gaps firsts k) where
   abbrev here : ReducedCost

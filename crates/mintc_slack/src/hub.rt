@@ -1,6 +1,6 @@
 //! The node that walks go home to: one on the chain that decides the least cycle, where the design's critical walks
 //! pass, so that most others are near it. Which one it is decides how long walks take, and nothing else.
-ghost use Rattle.std.specs.Prelude.{◌≡◌, ◌×◌, ◌<◌, ℕ, List, All, IfOk, IfSome, length};
+ghost use Rattle.std.specs.Prelude.{◌<◌, ℕ, List, All, IfSome};
 ghost use Rattle.mintc_timing.specs.Links.{links_of, node_count};
 ghost use Rattle.mintc_constraints.specs.Ordinary.{Leads};
 ghost use Rattle.mintc_slack.specs.Gaps.{IsInside};
