@@ -1,5 +1,5 @@
 -- A table in the place of four files.
-use Rattle.std.proofs.Common.{◌≡◌, ◌≤◌, ◌+◌, ◌++◌, ◌∷◌, ℕ, Bool, true, List, [], length, refl, arith, take, drop, set}
+use Rattle.std.proofs.Common.{◌≡◌, ◌<◌, ◌≤◌, ◌+◌, ◌++◌, ◌∷◌, ℕ, Bool, true, List, [], length, refl, arith, take, drop, set}
 use Rattle.std.specs.Prelude.{remove}
 use Rattle.mintc_command_answers.specs.Commands.{roles_of}
 use Rattle.mintc_command_answers.specs.declared.command.Command.{Command}
@@ -7,7 +7,7 @@ use Rattle.mintc_command_answers.specs.declared.command.Command.TheVariants.{OfD
 use Rattle.mintc_command_answers.specs.declared.command.Job.{Job}
 use Rattle.mintc_command_answers.specs.declared.command.Job.TheVariants as job
 use Rattle.mintc_command_answers.specs.declared.command.Source.TheVariants as source
-use Rattle.mintcx_translation.specs.Calls.{takes_four}
+use Rattle.mintcx_translation.specs.Calls.{cells_place, takes_four}
 use Rattle.mintcx_run.specs.Apart.{lone, on_table}
 
 -- the first of four, and those behind them, by three removals
@@ -25,6 +25,14 @@ first_put (a ∷ []) x few = absurd (omega (arith, few))
 first_put (a ∷ b ∷ []) x few = absurd (omega (arith, few))
 first_put (a ∷ b ∷ c ∷ []) x few = absurd (omega (arith, few))
 first_put (a ∷ b ∷ c ∷ d ∷ xs) x few = refl
+
+-- and so many are left with it
+pub put_length : {X : Type 0} (xs : List X) (x : X) → 4 ≤ length xs → length (set (lone xs) 0 x) + 3 ≡ length xs
+put_length [] x few = absurd (omega (arith, few))
+put_length (a ∷ []) x few = absurd (omega (arith, few))
+put_length (a ∷ b ∷ []) x few = absurd (omega (arith, few))
+put_length (a ∷ b ∷ c ∷ []) x few = absurd (omega (arith, few))
+put_length (a ∷ b ∷ c ∷ d ∷ xs) x few = omega arith
 
 -- so many are left
 pub lone_length : {X : Type 0} (xs : List X) → 4 ≤ length xs → length (lone xs) + 3 ≡ length xs
@@ -72,3 +80,11 @@ four_roles (OfDesign work source.Liberty) four = let more = three_less work in l
 four_roles (OfDesign work source.Table) four = absurd (cc four)
 four_roles (Sample number) four = absurd (cc four)
 four_roles (Corners count) four = absurd (cc four)
+
+-- the file of the cells is one of the four
+pub cells_among : (command : Command) → takes_four command ≡ true → cells_place command < length (roles_of command)
+cells_among (OfDesign work source.Files) four = let more = three_fewer work in let some = some_role work in omega (arith, more, some)
+cells_among (OfDesign work source.Liberty) four = let more = three_less work in let some = some_role work in omega (arith, more, some)
+cells_among (OfDesign work source.Table) four = absurd (cc four)
+cells_among (Sample number) four = absurd (cc four)
+cells_among (Corners count) four = absurd (cc four)

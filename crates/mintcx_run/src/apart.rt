@@ -59,10 +59,11 @@ fn lone<T: Drop>(mut items: Vec<T>) -> Vec<T>
 }
 
 /// Texts, with one in the place of the first four.
-#[tactic(auto, using(crate::proofs::ApartLaws::first_put))]
+#[tactic(auto, using(crate::proofs::ApartLaws::first_put, crate::proofs::ApartLaws::put_length))]
 pub(crate) fn in_place(text: Bytes, texts: Vec<Bytes>) -> Vec<Bytes>
     requires { 4 ≤ length texts.items }
-    ensures { result.items ≡ in_place text texts.items }
+    ensures value { result.items ≡ in_place text texts.items }
+    ensures count { length result.items + 3 ≡ length texts.items }
 {
     let mut texts = lone(texts);
     texts[0] = text;

@@ -166,6 +166,7 @@ fn texts_reply<S: Shelf>(
 }
 
 /// The reply where there is a design with edges apart, of what is taken of the files of an order.
+#[tactic(auto, using(crate::proofs::ApartLaws::four_roles))]
 fn made_reply<S: Shelf>(
     alloc: Global,
     order: Order,
@@ -263,6 +264,7 @@ fn apart_reply<S: Shelf>(
 
 /// The reply to an order of the texts that are given, or, where edges are kept apart, of what is taken of its files;
 /// `library` is what was taken of a library that is described, and `clamps` are the warnings of delays below 0.
+#[tactic(auto, using(crate::proofs::ApartLaws::cells_among))]
 fn design_reply<S: Shelf>(
     alloc: Global,
     order: Order,

@@ -55,7 +55,8 @@ pub(crate) fn describe(
 /// What was taken of files, of which one, of this number, may be a library that was described.
 pub(crate) fn restored(mut files: Vec<Bytes>, at: usize, library: Option<Bytes>) -> Vec<Bytes>
     requires { at < length files.items }
-    ensures { result.items ≡ restored files.items at library }
+    ensures value { result.items ≡ restored files.items at library }
+    ensures count { length result.items ≡ length files.items }
 {
     if let Some(library) = library {
         files[at] = library;
