@@ -24,8 +24,8 @@ use Rattle.mintc_annotate.specs.ClockPorts.{listed_in}
 use Rattle.mintc_annotate.specs.Phases.{storage, first_at, same_spot, IsPhaseOf}
 use Rattle.mintc_annotate_resolve.specs.Resolution.{Said, range_of}
 use Rattle.mintc_annotate.specs.Made.{element_of, port_element, bits_of, elements_of}
-use Rattle.mintc_annotate_resolve.proofs.SharedRangeLimits.{AreSaid}
-use Rattle.mintc_annotate.proofs.ElementLimits.{margin_is, delay_is, order_is, KeepsHold, storage_in}
+use Rattle.mintc_annotate_resolve.proofs.SharedRangeLimits.{AreSaid, range_in}
+use Rattle.mintc_annotate.proofs.SharedElementLimits.{margin_is, delay_is, order_is, KeepsHold, storage_in}
 
 phase_is : (k p : ℕ) → is_phase k p ≡ true → IsPhase k p
 phase_is k p h = let b = and_parts (nat_le 1 p) (nat_le p k) h in let low = b.0 in let high = b.1 in (grind (arith, nat_tests, low), grind (arith, nat_tests, high))
@@ -88,7 +88,7 @@ stored_in h cells spots ss [] ps are rules holds stored traced = All-nil (IsElem
 stored_in h cells spots ss (l ∷ ls) [] are rules holds stored traced = absurd traced
 stored_in h cells spots ss (l ∷ ls) (p ∷ ps) are rules holds stored traced =
     All-cons (IsElement (length spots)) (element_of (range_of ss) (dotted (leaf_path h l)) l p (leaf_cell h cells l)) _
-    (storage_in ss (dotted (leaf_path h l)) l p (length spots) (leaf_cell h cells l) are (rules l (All-head (λ k. is_storage (leaf_cell h cells k) ≡ true) l ls stored)) (holds l)
+    (storage_in (range_of ss) (λ m r e. range_in ss m r are e) (dotted (leaf_path h l)) l p (length spots) (leaf_cell h cells l) (rules l (All-head (λ k. is_storage (leaf_cell h cells k) ≡ true) l ls stored)) (holds l)
     (All-head (λ k. is_storage (leaf_cell h cells k) ≡ true) l ls stored) (phase_found h cells spots l p traced.0))
     (stored_in h cells spots ss ls ps are rules holds (All-tail (λ k. is_storage (leaf_cell h cells k) ≡ true) l ls stored) traced.1)
 

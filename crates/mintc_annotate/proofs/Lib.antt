@@ -1,11 +1,12 @@
 pub mod SharedPartLaws
 mod AnnotateLaws
-mod ArcLimits
+pub mod SharedArcLimits
 mod BuildLaws
-mod CountLaws
+pub mod SharedCountLaws
 pub mod SharedDesignLaws
 mod DesignLimits
-mod ElementLimits
+pub mod SharedElementLimits
+mod SaidLaws
 mod ListingLaws
 mod PartLimits
 mod JumpLaws

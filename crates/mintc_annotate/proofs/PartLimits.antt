@@ -29,8 +29,8 @@ use Rattle.mintc_annotate.specs.Phases.{storage, phase_spots, IsPhaseOf}
 use Rattle.mintc_annotate_resolve.specs.Resolution.{Said, said, range_of, path_on}
 use Rattle.mintc_annotate.specs.Made.{RangeOf, bits_of, no_delay, gate_arc, gate_arcs, storage_arcs, leaf_arcs, number_in, arcs_of, elements_of, element_of, port_element, IsMade}
 use Rattle.mintc_annotate_resolve.proofs.SharedRangeLimits.{AreSaid, range_in, all_said}
-use Rattle.mintc_annotate.proofs.ElementLimits.{AreDelays, delay_is, order_is, or_in, KeepsHold}
-use Rattle.mintc_annotate.proofs.ArcLimits.{none_delays, inner_arc, data_arc, output_arc, joins_in, inputs_in, outputs_in, pins_count}
+use Rattle.mintc_annotate.proofs.SharedElementLimits.{AreDelays, delay_is, order_is, or_in, KeepsHold}
+use Rattle.mintc_annotate.proofs.SharedArcLimits.{none_delays, inner_arc, data_arc, output_arc, joins_in, inputs_in, outputs_in, pins_count}
 use Rattle.mintc_annotate.proofs.DesignLimits.{elements_in, bound_is}
 use Rattle.mintc_annotate.proofs.SharedTraceLaws.{number_yes}
 

@@ -22,7 +22,7 @@ use Rattle.mintc_timing.specs.Design.{Design}
 use Rattle.mintc_timing.specs.Limits.{HasParts}
 use Rattle.mintc_annotate_resolve.specs.Pins.{leaf_at, leaf_cell, no_leaf, is_storage}
 use Rattle.mintc_annotate.specs.Made.{IsMade}
-use Rattle.mintc_annotate.proofs.ElementLimits.{KeepsHold}
+use Rattle.mintc_annotate.proofs.SharedElementLimits.{KeepsHold}
 use Rattle.mintc_annotate.proofs.PartLimits.{made_has_parts}
 
 hold_of_defaults : (has_hold : Bool) (hold : ℤ) → (has_hold || is_same hold (pos 0)) ≡ true → has_hold ≡ false → hold ≡ pos 0

@@ -4,6 +4,7 @@ pub mod Given
 pub mod Laws
 pub mod Made
 pub mod Phases
+pub mod Said
 -- What only the proofs need:
 pub mod Clocked
 pub mod Counts

@@ -159,7 +159,7 @@ fn arcs(
 }
 
 /// The names of phases.
-fn phase_names(alloc: Global, phases: &[PhaseDef]) -> Result<Vec<Name>, OutOfMemory>
+pub fn phase_names(alloc: Global, phases: &[PhaseDef]) -> Result<Vec<Name>, OutOfMemory>
     ensures { IfOk result (λ v. v.items ≡ map (λ p. p.name) phases.now) }
 {
     let mut names = Vec::new(alloc);
@@ -171,7 +171,7 @@ fn phase_names(alloc: Global, phases: &[PhaseDef]) -> Result<Vec<Name>, OutOfMem
 }
 
 /// The same bounds once more.
-fn copy_bounds(alloc: Global, bounds: &[Bound]) -> Result<Vec<Bound>, OutOfMemory>
+pub fn copy_bounds(alloc: Global, bounds: &[Bound]) -> Result<Vec<Bound>, OutOfMemory>
     ensures { IfOk result (λ v. v.items ≡ bounds.now) }
 {
     let mut copy = Vec::new(alloc);

@@ -41,8 +41,8 @@ fn inner_bit(elements: u32, bit: u32) -> u32
     2 * elements + bit
 }
 
-/// Adds an arc.
-fn push_arc(
+/// Adds an arc between two bits of a design, with the least and the greatest of its delay in femtoseconds.
+pub fn push_arc(
     found: &mut Vec<TimingArc>,
     from: u32,
     to: u32,
@@ -246,8 +246,8 @@ fn push_leaf(
     }
 }
 
-/// The number of the next element after a leaf.
-fn next_element(hierarchy: &Hierarchy, cells: &Cells, leaf: u32, element: u32) -> u32
+/// The number of the next latch or flop after a leaf, where the one at or after the leaf has this number.
+pub fn next_element(hierarchy: &Hierarchy, cells: &Cells, leaf: u32, element: u32) -> u32
     requires shape { IsFlattened cells.now hierarchy.now }
     requires leaf { leaf < length hierarchy.now.leaves }
     requires element { element ≡ number_in hierarchy.now cells.now leaf }

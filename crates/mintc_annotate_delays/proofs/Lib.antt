@@ -1,5 +1,8 @@
+pub mod SharedKeyLaws
 mod TableLaws
 mod RangeLaws
+pub mod SharedLeafLaws
 mod GatherLaws
+pub mod SharedDelayLaws
 mod DelayLaws
-mod GroupLaws
+pub mod SharedGroupLaws

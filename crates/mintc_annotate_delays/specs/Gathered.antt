@@ -1,31 +1,12 @@
 -- What is taken in of delays.
-use Rattle.std.specs.Prelude.{◌≡◌, ◌<◌, ◌==◌, ◌++◌, ◌∷◌, [], if◌then◌else◌, ℕ, ℤ, List, map, length, filter}
-use Rattle.std.specs.Prelude.{slice_index_or, Option, None, Some, Vec}
+use Rattle.std.specs.Prelude.{◌≡◌, ◌<◌, ◌==◌, ◌++◌, ◌∷◌, [], if◌then◌else◌, ℕ, ℤ, List, map, length}
+use Rattle.std.specs.Prelude.{slice_index_or, None, Some, Vec}
 use Rattle.std.specs.Global.{Global}
-use Rattle.mintc_sdf.specs.declared.delays.Place.{Place}
-use Rattle.mintc_sdf.specs.declared.delays.Place.TheVariants.{Top, Every, Path}
-use Rattle.mintc_flatten_hierarchy.specs.declared.hierarchy.Hierarchy.{Hierarchy}
 use Rattle.mintc_annotate_resolve.specs.declared.targets.Resolved.{Resolved as Answer}
 use Rattle.mintc_annotate_resolve.specs.declared.targets.Resolved.TheVariants as answer
 use Rattle.mintc_annotate_delays.specs.declared.ranges.Ranges.{Ranges}
-use Rattle.mintc_annotate_resolve.specs.Pins.{leaf_at, all_leaves}
 use Rattle.mintc_annotate_resolve.specs.Resolution.{Target, Resolved, Said, targets, refusal_of}
 use Rattle.mintc_annotate_delays.specs.Ranges.{HasPlace, HasRanges, IsSameRoom}
-
--- the path of the one instance of a place
-abbrev pub path_of : Place → Option (List (List ℕ))
-path_of Top = Some []
-path_of Every = None
-path_of (Path path) = Some path
-
--- the leaves of a cell, in their order
-abbrev pub leaves_with : Hierarchy → ℕ → List ℕ
-leaves_with h cell = filter (λ l. (leaf_at h l).cell == cell) (all_leaves h)
-
--- the leaves of each of so many cells
-pub record AreGrouped (h : Hierarchy) (count : ℕ) (groups : List (Vec ℕ Global)) : Type 0 where
-  pub size : length groups ≡ count
-  pub each : (c : ℕ) (d : Vec ℕ Global) → c < count → (slice_index_or groups c d).items ≡ leaves_with h c
 
 -- one more leaf of a cell
 abbrev pub IsGroupedIn : List (Vec ℕ Global) → List (Vec ℕ Global) → ℕ → ℕ → Type 0

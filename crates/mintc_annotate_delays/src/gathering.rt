@@ -1,6 +1,6 @@
 //! The ranges of all that delays annotate.
 ghost use Rattle.std.specs.Prelude.{◌≡◌, ◌<◌, ℕ, [], length, slice_index_or, None, Some, IfOk, IfErr, OnOk};
-ghost use Rattle.std.specs.Prelude.{MatchOption, MatchResult};
+ghost use Rattle.std.specs.Prelude.{MatchResult};
 ghost use Rattle.mintc_text.specs.Stops.{StopsAt};
 ghost use Rattle.mintc_cells.specs.Entries.{AreOrdered};
 ghost use Rattle.mintc_flatten_hierarchy.specs.Shape.{IsFlattened};
@@ -12,24 +12,20 @@ ghost use Rattle.mintc_annotate_resolve.specs.Targets.{targets_of, resolved_of};
 ghost use Rattle.mintc_annotate_resolve.specs.Instances.{IsAt};
 ghost use Rattle.mintc_annotate_resolve.specs.Lookups.{IsLookup};
 ghost use Rattle.mintc_annotate_delays.specs.Ranges.{HasRoom, HasRanges, AreRanges};
-ghost use Rattle.mintc_annotate_delays.specs.Gathered.{AreGrouped, IsGroupedIn, HasPlaceOf, IsTakenIn, path_of};
+ghost use Rattle.mintc_annotate_delays.specs.Groups.{AreGrouped};
+ghost use Rattle.mintc_annotate_delays.specs.Gathered.{HasPlaceOf, IsTakenIn};
 
+use crate::groups::leaves_by_cell;
+use crate::paths::{PathInstance, instance_at, path_of};
 use crate::ranges::Ranges;
 use mintc_annotate_resolve::{
-    Instance, Instances, Lookup, Resolved, Target, at_leaf, index_places, is_same_path,
+    Instance, Instances, Lookup, Resolved, Target, at_leaf, index_places,
 };
 use mintc_cells::Cells;
 use mintc_flatten_hierarchy::Hierarchy;
-use mintc_sdf::{Delay, Place, Subject};
+use mintc_sdf::{Delay, Subject};
 use mintc_text::{Name, OutOfMemory, Refusal, Role, Stop};
 use std::alloc::Global;
-
-/// A path, with the instance that it names.
-#[derive(Clone, Copy)]
-struct PathInstance<'a> {
-    path: &'a [Name],
-    instance: Instance,
-}
 
 /// Takes in numbers of a target, if there is one.
 fn apply_target(
@@ -95,24 +91,6 @@ fn apply_at_leaves(
     Ok(())
 }
 
-/// The instance that a path names, which is often that of the delay before.
-fn instance_at<'a>(
-    lookup: &Lookup<'_>,
-    key: &mut Vec<u8>,
-    last: PathInstance<'a>,
-    path: &'a [Name],
-) -> Result<PathInstance<'a>, OutOfMemory>
-    requires lookup { IsLookup lookup.now }
-    requires last { IsAt lookup.now.hierarchy.now last.path.now last.instance }
-    ensures { IfOk result (λ s. (s.path.now ≡ path.now) × IsAt lookup.now.hierarchy.now path.now s.instance) }
-{
-    if is_same_path(last.path, path) {
-        return Ok(last);
-    }
-    let instance = lookup.instances.instance(key, path)?;
-    Ok(PathInstance { path, instance })
-}
-
 /// Takes in a delay at the instance of a path.
 fn apply_at_instance(
     lookup: &Lookup<'_>,
@@ -167,17 +145,6 @@ fn apply_at_cell_type(
             Some(cell) => apply_at_leaves(lookup, ranges, &groups[cell as usize], delay),
             None => Ok(()),
         },
-    }
-}
-
-/// The path of the one instance of a place, where it isn't every instance.
-fn path_of(place: &Place) -> Option<&[Name]>
-    ensures { MatchOption result (path_of place.now ≡ None) (λ path. path_of place.now ≡ Some path.now) }
-{
-    match place {
-        Place::Every => None,
-        Place::Top => Some(&[]),
-        Place::Path(path) => Some(path.items()),
     }
 }
 
@@ -248,36 +215,6 @@ fn apply_all(
         last = apply_delay(lookup, groups, ranges, &mut key, last, delay)?;
     }
     Ok(())
-}
-
-/// Puts a leaf to those of its cell.
-fn group(groups: &mut Vec<Vec<u32>>, cell: usize, leaf: u32) -> Result<(), OutOfMemory>
-    requires { cell < length groups.old.items }
-    ensures { OnOk result (IsGroupedIn groups.old.items groups.new.items cell leaf) }
-{
-    groups[cell].push(leaf)?;
-    Ok(())
-}
-
-/// The leaves of each cell.
-fn leaves_by_cell(
-    alloc: Global,
-    hierarchy: &Hierarchy,
-    cells: &Cells,
-) -> Result<Vec<Vec<u32>>, OutOfMemory>
-    requires { IsFlattened cells.now hierarchy.now }
-    ensures { IfOk result (λ v. AreGrouped hierarchy.now (length cells.now) v.items) }
-{
-    let mut groups = Vec::new(alloc);
-    for cell in 0..cells.count() {
-        groups.push(Vec::new(alloc))?;
-    }
-    let leaves = hierarchy.leaves.items();
-    for number in 0..leaves.len() {
-        let leaf = &leaves[number];
-        group(&mut groups, leaf.cell as usize, number as u32)?;
-    }
-    Ok(groups)
 }
 
 /// The ranges of all that delays annotate. The refusal is that of the first delay that annotates nothing that is there:

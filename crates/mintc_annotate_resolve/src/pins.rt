@@ -36,8 +36,8 @@ pub(crate) fn input_pin(cells: &Cells, cell: u32, name: &[u8]) -> Option<u32>
     }
 }
 
-/// The number of an output pin of a cell.
-pub(crate) fn output_pin(cells: &Cells, cell: u32, name: &[u8]) -> Option<u32>
+/// The number of an output pin of a cell by its name, among all its pins from 0 on. None of a name that no output has.
+pub fn output_pin(cells: &Cells, cell: u32, name: &[u8]) -> Option<u32>
     requires { cell < length cells.now }
     ensures { result ≡ output_pin (cell_at cells.now cell) name.now }
 {

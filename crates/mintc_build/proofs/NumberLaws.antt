@@ -27,7 +27,8 @@ use Rattle.mintc_annotate.specs.Made.{RangeOf, bits_of, element_of, port_element
 use Rattle.mintc_annotate.specs.Laws.{DesignsAreDetermined}
 use Rattle.mintc_timing.specs.Numbers.{unnumbered, undelayed, DifferInNumbers}
 use Rattle.mintc_build.specs.Laws.{CornersDifferInNumbers}
-use Rattle.mintc_build.proofs.FilesLaws.{one_netlist, one_hierarchy, moved, moved_design}
+use Rattle.mintc_build.proofs.SharedFilesLaws.{one_netlist, one_hierarchy, moved}
+use Rattle.mintc_build.proofs.FilesLaws.{moved_design}
 
 -- the laws of the texts and of what is made of them
 pub record AreCornerLaws : Type 0 where

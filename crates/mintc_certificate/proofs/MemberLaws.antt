@@ -9,8 +9,8 @@ use Rattle.std.specs.List.{All}
 use Rattle.std.specs.Str.{bytes_eq}
 use Rattle.std.specs.Str.Parse.{digits_value}
 use Rattle.mintc_text.specs.declared.limits.TheConstants.{MOST_COUNT}
+use Rattle.mintc_text.specs.ReadErrors.{Halts}
 use Rattle.mintc_timing_text.specs.Fields.{IsCount, number, plain, plain_line}
-use Rattle.mintc_timing_text.specs.Reading.{Halts}
 use Rattle.mintc_timing_text.proofs.SharedFieldsLaws.{and_both, plain_number}
 use Rattle.mintc_text.specs.declared.read_error.ReadError.{ReadError}
 use Rattle.mintc_text.specs.declared.read_error.ReadError.TheVariants.{Malformed, OutOfMemory}

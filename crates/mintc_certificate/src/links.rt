@@ -1,12 +1,12 @@
 //! The links that members stand for.
-ghost use Rattle.std.specs.Prelude.{◌≡◌, ◌<◌, ◌≤◌, ◌^◌, length, slice_index_or, All};
+ghost use Rattle.std.specs.Prelude.{◌≡◌, ◌<◌, ◌≤◌, ◌^◌, length, All};
 ghost use Rattle.mintc_timing.specs.declared.parts.TimingArc.{TimingArc as Arc};
 ghost use Rattle.mintc_timing.specs.Limits.{IsDelay, IsSpan};
-ghost use Rattle.mintc_timing.specs.Links.{bound_link as bound_link_of, reach_link as reach_link_of};
+ghost use Rattle.mintc_timing.specs.Links.{reach_link as reach_link_of};
 ghost use Rattle.mintc_timing.specs.Order.{ArePathsShort};
 ghost use Rattle.mintc_timing.specs.Paths.{IsPath, greatest_delay, input_of};
 ghost use Rattle.mintc_certificate.specs.CertificateText.{IsCounted};
-ghost use Rattle.mintc_certificate.specs.Valid.{IsNamed, no_bound, link_of as link_of_member};
+ghost use Rattle.mintc_certificate.specs.Valid.{IsNamed, link_of as link_of_member};
 
 use crate::Member;
 use mintc_timing::{Flat, Link, TimingArc};
@@ -43,16 +43,6 @@ fn path_link(flat: &Flat, from: u32, to: u32, path: &[u32]) -> Link
     reach_link(flat, from, to, path_delay(flat.arcs(), path))
 }
 
-/// The link of the bound of a number.
-fn numbered_bound_link(flat: &Flat, index: u32) -> Link
-    requires { index < length flat.now.bounds }
-    ensures value { result ≡ bound_link_of index (slice_index_or flat.now.bounds index no_bound) }
-    ensures range { IsSpan result.delay }
-    ensures cycles { result.cycles ≤ 1 }
-{
-    bound_link(index, &flat.bounds()[index as usize])
-}
-
 /// The link that a member stands for: its nodes, its delay in femtoseconds and its cycles. A reach has the delay of its
 /// own path, which may be less than the greatest of its two elements.
 pub fn link_of(flat: &Flat, member: &Member) -> Link
@@ -63,7 +53,7 @@ pub fn link_of(flat: &Flat, member: &Member) -> Link
     ensures range { IsSpan result.delay }
     ensures cycles { result.cycles ≤ 1 }
 {
-    let _phases = flat.phases();
+    let bounds = flat.bounds();
     match member {
         Member::Start { phase } => start_link(*phase),
         Member::Cycle { phase } => cycle_link(*phase),
@@ -75,6 +65,6 @@ pub fn link_of(flat: &Flat, member: &Member) -> Link
         Member::Opened { element } => opened_link(flat, *element),
         Member::Reach { from, to, arcs } => path_link(flat, *from, *to, arcs.items()),
         Member::Setup { element } => setup_link(flat, *element),
-        Member::Bound { index } => numbered_bound_link(flat, *index),
+        Member::Bound { index } => bound_link(*index, &bounds[*index as usize]),
     }
 }

@@ -1,12 +1,12 @@
 //! The lines of members, each read by its words.
 ghost use Rattle.std.specs.Prelude.{◌≡◌, ◌≤◌, ◌∷◌, ℕ, List, MatchOption, MatchResult, MatchBool, Ok, Err, codes};
+ghost use Rattle.mintc_text.specs.ReadErrors.{Halts};
 ghost use Rattle.mintc_timing_text.specs.Fields.{IsCount, number};
 ghost use Rattle.mintc_certificate.specs.declared.member_lines.MemberWord.{MemberWord};
 ghost use Rattle.mintc_certificate.specs.declared.member_lines.Single.{Single};
 ghost use Rattle.mintc_certificate.specs.declared.members.Member.{Member};
 ghost use Rattle.mintc_certificate.specs.declared.version.Version.{Version};
 ghost use Rattle.mintc_certificate.specs.CertificateText.{IsMemberOf, IsMemberLine};
-ghost use Rattle.mintc_timing_text.specs.Reading.{Halts};
 ghost use Rattle.mintc_certificate.specs.MemberWords.{single, single_word, member_word, IsOne, IsTwo, AreNumbers};
 
 use crate::Member;

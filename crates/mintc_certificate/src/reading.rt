@@ -1,9 +1,10 @@
 //! Reading the text of a certificate.
 ghost use Rattle.std.specs.Prelude.{◌≡◌, ◌≤◌, ℕ, ℤ, List, Bool, MatchOption, MatchResult, IfOk, IfErr, IfSome, length};
 ghost use Rattle.mintc_text.specs.declared.limits.TheConstants.{MOST_BYTES};
+ghost use Rattle.mintc_text.specs.ReadErrors.{Halts};
 ghost use Rattle.mintc_text.specs.Stops.{StopsAt};
 ghost use Rattle.mintc_timing.specs.declared.clocking.Schedule.{Schedule};
-ghost use Rattle.mintc_timing_text.specs.Reading.{HasNone, HasRead, IsAt, number_after, Halts};
+ghost use Rattle.mintc_timing_text.specs.Reading.{HasNone, HasRead, IsAt, number_after};
 ghost use Rattle.mintc_timing_text.specs.Texts.{den, phase};
 ghost use Rattle.mintc_certificate.specs.declared.certificate.Certificate.{Certificate};
 ghost use Rattle.mintc_certificate.specs.declared.members.Member.{Member};

@@ -18,7 +18,7 @@ use Rattle.mintc_checker.specs.declared.labels.TheConstants.{NO_LABELS}
 use Rattle.mintc_checker.specs.declared.course.Course.{Course}
 use Rattle.mintc_checker.specs.declared.course.Places.{Places}
 use Rattle.mintc_checker.specs.declared.course.Step.{Step}
-use Rattle.mintc_checker.specs.Course.{place_at, placed, ArePlaces, ArePlacesOf, AreInside, IsCourse, IsStep}
+use Rattle.mintc_checker.specs.Course.{bare, place_at, placed, ArePlaces, ArePlacesOf, AreInside, IsCourse, IsStep}
 use Rattle.mintc_checker.specs.Labels.{labels_at, no_labels, AreLabelsOf, IsStart, IsAlong}
 use Rattle.mintc_checker.proofs.Carrying.{carried}
 use Rattle.mintc_checker.proofs.Sizes.{AreLanes-from_labels}
@@ -84,7 +84,7 @@ step_lanes design limits short den d IsOfKind places rows is_den each h bit row 
 -- one turn: the labels at the step's end are joined with those at its beginning
 pub carried_placed : (design : Design) (den : ℤ) (d : List ℤ) (order : List ℕ) (is_order : IsOrder design.arcs order) (course : Course) → IsCourse design order course →
     (k : ℕ) → IsArc (length design.elements) (length design.inner) (arc_at design.arcs (get_or order k 0)) → k < length order →
-    (step : Step) → IsStep course.places.of_bits.items (arc_at design.arcs (get_or order k 0)) step → (old new : List Labels) →
+    (step : Step) → IsStep course.places.of_bits.items (bare (arc_at design.arcs (get_or order k 0))) step → (old new : List Labels) →
     ((other : ℕ) → other ≢ step.to → labels_at new other ≡ labels_at old other) →
     AreJoined int_max (labels_at old step.to).lanes (labels_at old step.from).lanes (step.max *ℤ den) (labels_at new step.to).lanes →
     AreLabelsOf design den d (IsAlong order k) (placed course.places.of_bits.items old) → AreLabelsOf design den d (IsAlong order (k + 1)) (placed course.places.of_bits.items new)

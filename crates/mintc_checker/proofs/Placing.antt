@@ -1,13 +1,17 @@
 -- Places of bits, and steps from place to place.
-use Rattle.std.proofs.Common.{◌≡◌, ◌≢◌, ℕ, ◌<◌, ◌≤◌, ◌+◌, List, [], ◌∷◌, ◌++◌, length, get_or, set, replicate, get_or-set_same, get_or-set_other, arith, ap, ◌∙◌, sym, ⊎_elim, subst}
+use Rattle.std.proofs.Common.{◌≡◌, ◌≢◌, ℕ, ◌<◌, ◌≤◌, ◌+◌, ◌*◌, List, length, get_or, set, replicate, length-set, get_or-set_same, get_or-set_other, arith, ap, refl, ◌∙◌, sym, ⊎_elim, subst}
 use Rattle.std.proofs.lemmas.Bool.{cases_eq}
-use Rattle.std.proofs.lemmas.List.{get_or_append_left, get_or-replicate, get_or_past, length-replicate, length-append}
-use Rattle.std.proofs.Math.Seq.{get_or-append_seam}
+use Rattle.std.proofs.lemmas.List.{get_or-map, get_or-replicate, get_or_past, length-replicate}
+use Rattle.std.proofs.Math.ListN.{length-map}
 use Rattle.mintc_timing.specs.declared.parts.TimingArc.{TimingArc}
+use Rattle.mintc_timing.specs.Design.{Design, no_arc}
+use Rattle.mintc_timing.specs.Limits.{IsDesign}
+use Rattle.mintc_timing.specs.Order.{IsOrder}
 use Rattle.mintc_timing.specs.Paths.{arc_at, output_of}
+use Rattle.mintc_timing.proofs.SharedOrdered.{inside}
 use Rattle.mintc_checker.specs.declared.course.Places.{Places}
 use Rattle.mintc_checker.specs.declared.course.Step.{Step}
-use Rattle.mintc_checker.specs.Course.{place_at, ArePlaces, AreSteps, HaveOutputs, IsStep, StayPlaced, no_step, step_at}
+use Rattle.mintc_checker.specs.Course.{bare, moved, place_at, ArePlaces, AreSteps, HaveOutputs, IsBetween, IsStep, StayPlaced, no_step, step_at}
 
 pub none_placed : (count : ℕ) (places : List ℕ) → places ≡ replicate count 0 → (bit : ℕ) → place_at places bit ≡ 0
 none_placed count places same bit = grind (arith, same, get_or-replicate {A = ℕ} count bit 0 0, get_or_past {X = ℕ} (replicate count 0) bit 0, length-replicate {A = ℕ} count 0)
@@ -62,7 +66,7 @@ HaveOutputs-more count old new h kept some = λ l low. ⊎_elim
     (cases_eq l count)
 
 -- a step stays one where places do
-pub IsStep-kept : (old new : List ℕ) (arc : TimingArc) (step : Step) → StayPlaced old new → IsStep old arc step → IsStep new arc step
+pub IsStep-kept : (old new : List ℕ) (arc step : Step) → StayPlaced old new → IsStep old arc step → IsStep new arc step
 IsStep-kept old new arc step kept h = record {
   from = h.from ∙ sym (kept arc.from (λ e. h.begins (h.from ∙ e)));
   to = h.to ∙ sym (kept arc.to (λ e. h.ends (h.to ∙ e)));
@@ -72,23 +76,38 @@ IsStep-kept old new arc step kept h = record {
 }
 
 -- one more step
-module _ (arcs : List TimingArc) (order : List ℕ) (k : ℕ) (old new : List ℕ) (steps : List Step) (step : Step)
-    (h : AreSteps arcs order k old steps) (kept : StayPlaced old new) (is : IsStep new (arc_at arcs (get_or order k 0)) step) where
-  step_old : (i : ℕ) → i < k → step_at (steps ++ step ∷ []) i ≡ step_at steps i
-  step_old i low = get_or_append_left steps (step ∷ []) no_step i (omega (arith, h.count))
+module _ (arcs : List Step) (k : ℕ) (old new : List ℕ) (steps : List Step) (step : Step)
+    (h : AreSteps arcs k old steps) (low : k < length arcs) (kept : StayPlaced old new) (is : IsStep new (step_at arcs k) step) where
+  step_new : step_at (set steps k step) k ≡ step
+  step_new = get_or-set_same steps k step no_step (omega (arith, h.count))
 
-  step_new : step_at (steps ++ step ∷ []) k ≡ step
-  step_new = ap (λ i. step_at (steps ++ step ∷ []) i) (sym h.count) ∙ get_or-append_seam steps step [] no_step
+  step_old : (i : ℕ) → i ≢ k → step_at (set steps k step) i ≡ step_at steps i
+  step_old i ne = get_or-set_other steps k i step no_step ne
 
-  pub AreSteps-more : AreSteps arcs order (k + 1) new (steps ++ step ∷ [])
+  pub AreSteps-more : AreSteps arcs (k + 1) new (set steps k step)
   AreSteps-more = record {
-    count = omega (arith, length-append steps (step ∷ []), h.count);
-    each = λ i low. ⊎_elim
+    count = length-set steps k step ∙ h.count;
+    each = λ i below. ⊎_elim
         (λ (e : i ≡ k). rw (e, step_new) is)
-        (λ ne. let before : i < k = omega arith in rw (step_old i before) (IsStep-kept old new (arc_at arcs (get_or order i 0)) (step_at steps i) kept (h.each i before)))
+        (λ ne. let before : i < k = omega arith in rw (step_old i ne) (IsStep-kept old new (step_at arcs i) (step_at steps i) kept (h.each i before)))
         (cases_eq i k);
+    rest = λ i past. let ne : i ≢ k = omega arith in step_old i ne ∙ h.rest i (omega arith);
   }
 
 -- no steps yet
-pub AreSteps-none : (arcs : List TimingArc) (order places : List ℕ) (steps : List Step) → length steps ≡ 0 → AreSteps arcs order 0 places steps
-AreSteps-none arcs order places steps none = record { count = none; each = λ i low. absurd (omega arith) }
+pub AreSteps-none : (arcs : List Step) (places : List ℕ) → AreSteps arcs 0 places arcs
+AreSteps-none arcs places = record { count = refl; each = λ i low. absurd (omega arith); rest = λ i past. refl }
+
+pub length-moved : (arcs : List TimingArc) (order : List ℕ) → length (moved arcs order) ≡ length order
+length-moved arcs order = length-map order (λ number. bare (arc_at arcs number))
+
+pub moved_at : (arcs : List TimingArc) (order : List ℕ) (i : ℕ) → i < length order → step_at (moved arcs order) i ≡ bare (arc_at arcs (get_or order i 0))
+moved_at arcs order i low = get_or-map (λ number. bare (arc_at arcs number)) order i 0 no_step low
+
+-- the arcs of a design, in their order, are between its bits
+pub moved_between : (design : Design) → IsDesign design → (order : List ℕ) → IsOrder design.arcs order → (bits : ℕ) → bits ≡ 2 * length design.elements + length design.inner →
+    (i : ℕ) → i < length (moved design.arcs order) → IsBetween bits (step_at (moved design.arcs order) i)
+moved_between design limits order is_order bits count i low =
+    let below : i < length order = omega (arith, length-moved design.arcs order) in
+    let arc = limits.each_arc (get_or order i 0) no_arc (inside design.arcs order is_order i below) in
+    rw (moved_at design.arcs order i below, count) (record { from = arc.from; to = arc.to; max = arc.max })

@@ -1,16 +1,17 @@
 //! The arcs of a design in their order, each from place to place. The bits get their places in the order in which the
 //! arcs come to them, so that labels which are carried one after another stand near each other in memory.
-ghost use Rattle.std.specs.Prelude.{◌≡◌, ◌≢◌, ◌+◌, ◌-◌, ◌*◌, ◌^◌, ◌<◌, ◌≤◌, length, IfOk, OnOk};
+ghost use Rattle.std.specs.Prelude.{◌≡◌, ◌≢◌, ◌+◌, ◌-◌, ◌*◌, ◌^◌, ◌<◌, ◌≤◌, ℕ, length, IfOk, OnOk};
 ghost use Rattle.mintc_timing.specs.Limits.{IsDelay};
 ghost use Rattle.mintc_timing.specs.Order.{IsOrder};
-ghost use Rattle.mintc_checker.specs.Course.{place_at, ArePlaces, AreSteps, HaveOutputs, IsCourse, IsStep, StayPlaced};
+ghost use Rattle.mintc_checker.specs.Course.{bare, moved, place_at, step_at, ArePlaces, AreSteps, HaveOutputs};
+ghost use Rattle.mintc_checker.specs.Course.{IsBetween, IsCourse, IsStep, StayPlaced};
 
 use crate::reading::arc_at_place;
 use mintc_text::OutOfMemory;
 use mintc_timing::{Flat, Order, TimingArc};
 use std::alloc::Global;
 
-/// An arc from the place of one bit to that of another, with its greatest delay in femtoseconds.
+/// An arc with its greatest delay in femtoseconds: from bit to bit at first, then from place to place.
 #[derive(Clone, Copy)]
 pub(crate) struct Step {
     pub(crate) from: u32,
@@ -82,11 +83,35 @@ fn meet_outputs(places: &mut Places, flat: &Flat)
     }
 }
 
-/// The step of an arc.
-fn step_of(places: &mut Places, arc: TimingArc) -> Step
-    requires from { arc.from < length places.old.of_bits.items }
-    requires to { arc.to < length places.old.of_bits.items }
-    requires max { IsDelay arc.max }
+/// An arc as a step from bit to bit.
+fn bare_step(arc: TimingArc) -> Step
+    requires { IsDelay arc.max }
+    ensures { result ≡ bare arc }
+{
+    Step {
+        from: arc.from,
+        to: arc.to,
+        max: arc.max,
+    }
+}
+
+/// Appends the arcs in their order. Nothing else is done here: so the arcs, which stand far from each other in memory,
+/// are fetched side by side.
+fn add_arcs(steps: &mut Vec<Step>, flat: &Flat, order: &Order) -> Result<(), OutOfMemory>
+    requires order { IsOrder flat.now.arcs order.now }
+    requires none { length steps.old.items ≡ 0 }
+    ensures { OnOk result (steps.new.items ≡ moved flat.now.arcs order.now) }
+{
+    for place in 0..order.arcs().items().len() {
+        let step = bare_step(arc_at_place(flat, order, place));
+        steps.push(step)?;
+    }
+    Ok(())
+}
+
+/// A step from bit to bit as one from place to place.
+fn placed_step(places: &mut Places, arc: Step) -> Step
+    requires arc { IsBetween (length places.old.of_bits.items) arc }
     requires few { places.old.given < 2 ^ 32 - 2 }
     requires places { ArePlaces places.old }
     ensures places { ArePlaces places.new }
@@ -104,32 +129,22 @@ fn step_of(places: &mut Places, arc: TimingArc) -> Step
     }
 }
 
-/// Appends the steps of all arcs.
-fn add_steps(
-    steps: &mut Vec<Step>,
-    places: &mut Places,
-    flat: &Flat,
-    order: &Order,
-) -> Result<(), OutOfMemory>
-    requires order { IsOrder flat.now.arcs order.now }
-    requires count { length places.old.of_bits.items ≡ 2 * length flat.now.elements + length flat.now.inner }
+/// Makes steps from bit to bit those from place to place.
+fn place_all(steps: &mut [Step], places: &mut Places)
+    requires arcs { (i : ℕ) → i < length steps.old →
+        IsBetween (length places.old.of_bits.items) (step_at steps.old i) }
+    requires few { places.old.given + 2 * length steps.old < 2 ^ 32 - 2 }
     requires places { ArePlaces places.old }
-    requires outputs { HaveOutputs (length flat.now.elements) places.old.of_bits.items }
-    requires given { places.old.given ≤ length flat.now.elements }
-    requires none { length steps.old.items ≡ 0 }
-    ensures places { OnOk result (ArePlaces places.new) }
-    ensures count { OnOk result (length places.new.of_bits.items ≡ length places.old.of_bits.items) }
-    ensures outputs { OnOk result (HaveOutputs (length flat.now.elements) places.new.of_bits.items) }
-    ensures steps { OnOk result
-        (AreSteps flat.now.arcs order.now (length order.now) places.new.of_bits.items steps.new.items) }
+    ensures places { ArePlaces places.new }
+    ensures count { length places.new.of_bits.items ≡ length places.old.of_bits.items }
+    ensures kept { StayPlaced places.old.of_bits.items places.new.of_bits.items }
+    ensures steps { AreSteps steps.old (length steps.old) places.new.of_bits.items steps.new }
 {
-    let _elements = flat.elements();
-    for place in 0..order.arcs().items().len() {
-        let arc = arc_at_place(flat, order, place);
-        let step = step_of(places, arc);
-        steps.push(step)?;
+    for place in 0..steps.len() {
+        let arc = steps[place];
+        let step = placed_step(places, arc);
+        steps[place] = step;
     }
-    Ok(())
 }
 
 /// The course of a design's arcs in this order. All outputs have places.
@@ -140,6 +155,8 @@ pub(crate) fn course_of(alloc: Global, flat: &Flat, order: &Order) -> Result<Cou
     let mut places = Places::new(alloc, flat.bit_count())?;
     meet_outputs(&mut places, flat);
     let mut steps = Vec::with_capacity(alloc, order.arcs().items().len())?;
-    add_steps(&mut steps, &mut places, flat, order)?;
+    add_arcs(&mut steps, flat, order)?;
+    let _elements = flat.elements();
+    place_all(&mut steps, &mut places);
     Ok(Course { places, steps })
 }

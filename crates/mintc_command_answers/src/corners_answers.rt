@@ -14,7 +14,7 @@ ghost use Rattle.mintc_command_answers.specs.Sources.{AreShort, Gives, IsSourceR
 use crate::answer::Answer;
 use crate::command::{Command, Source};
 use crate::refusal_answers::{refusal_answer, refused_corner};
-use crate::source::accepted_system;
+use crate::source::{accepted_system, file_at};
 use crate::status::Status;
 use mintc_build::{corners_differ_in_numbers, from_files};
 use mintc_corners::{CornerCertificate, corners, corners_text};
@@ -48,14 +48,13 @@ fn corner_system(
     ensures value { IfOk result (Gives limits.now Source.Files (files_with texts.now delays.now)) }
     ensures stop { IfErr result (StopsAt (IsSourceRefused limits.now Source.Files (files_with texts.now delays.now))) }
 {
-    let _most = limits.most();
     let flat = from_files(
         alloc,
         limits,
-        texts[0].items(),
+        file_at(limits, texts, 0),
         delays.items(),
-        texts[1].items(),
-        texts[2].items(),
+        file_at(limits, texts, 1),
+        file_at(limits, texts, 2),
     )?;
     accepted_system(alloc, limits, flat)
 }
@@ -98,8 +97,9 @@ fn corner_systems(
 fn too_many(limits: &Limits, systems: &[System]) -> Option<Refusal>
     requires some { 1 ≤ length systems.now }
     requires few { length systems.now ≤ 4 }
-    ensures { MatchOption result (elements_together systems.now ≤ limits.now.elements)
+    ensures too_many { MatchOption result (elements_together systems.now ≤ limits.now.elements)
         (AreTooMany limits.now systems.now) }
+    ensures limit { limits.now.elements ≤ MOST_ELEMENTS }
 {
     let elements = systems.len() * systems[0].flat().elements().len();
     if elements > limits.most().elements {
@@ -124,11 +124,11 @@ pub fn accepted_corners(
     requires short { AreShort limits.now texts.now }
     ensures given { IfOk result (λ systems. AreGiven limits.now (corners_of texts.now) systems.items) }
     ensures within { IfOk result (λ systems. elements_together systems.items ≤ limits.now.elements) }
+    ensures few { IfOk result (λ systems. elements_together systems.items ≤ MOST_ELEMENTS) }
     ensures count { IfOk result (λ systems. length systems.items ≡ count) }
     ensures alike { IfOk result (λ systems. AreCorners systems.items) }
     ensures stop { IfErr result (HaveStopped limits.now texts.now) }
 {
-    let _most = limits.most();
     let systems = corner_systems(alloc, limits, texts, &texts[3..])?;
     if let Some(refusal) = too_many(limits, systems.as_slice()) {
         return Err(CornerStop::TooMany(refusal));
@@ -194,7 +194,6 @@ pub(crate) fn corners_answer(
         answer.text) }
     ensures status { IfOk result (λ answer. IsOfCommand answer.status) }
 {
-    let _most = limits.most();
     match accepted_corners(alloc, limits, count, texts) {
         Ok(systems) => optimum_of(alloc, systems.as_slice()),
         Err(CornerStop::Refused { corner, own }) => refused_corner(alloc, corner, &own),

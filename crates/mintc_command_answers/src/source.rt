@@ -7,7 +7,7 @@ ghost use Rattle.mintc_command_answers.specs.Commands.{source_roles};
 ghost use Rattle.mintc_timing.specs.Limits.{IsDesign, IsWithinLimits};
 ghost use Rattle.mintc_build.specs.Designs.{IsDesignRefusal};
 ghost use Rattle.mintc_command_answers.specs.Sources.{AreShort, Describes, Gives, GivesOrdered, HasNoDesign};
-ghost use Rattle.mintc_command_answers.specs.Sources.{IsLengthRefusal, IsSourceRefused, IsSystemOf, own_file};
+ghost use Rattle.mintc_command_answers.specs.Sources.{IsLengthRefusal, IsSourceRefused, IsSystemOf, file_at, own_file};
 
 use crate::command::Source;
 use mintc_build::{from_files, from_liberty, from_table, system, system_order};
@@ -29,6 +29,18 @@ pub fn too_long(limits: &Limits, roles: &[Role], files: &[Bytes]) -> Option<Refu
     None
 }
 
+/// The bytes of the file at a place, of files that aren't too long.
+pub(crate) fn file_at<'a>(limits: &Limits, files: &'a [Bytes], place: usize) -> &'a [u8]
+    requires place { place < length files.now }
+    requires short { AreShort limits.now files.now }
+    ensures value { result.now ≡ file_at files.now place }
+    ensures short { length result.now ≤ MOST_BYTES }
+    ensures limit { limits.now.bytes ≤ MOST_BYTES }
+{
+    let _most = limits.most();
+    files[place].items()
+}
+
 /// The design that the first files stand for, or their first refusal.
 fn design_of(alloc: Global, limits: &Limits, source: Source, files: &[Bytes]) -> Result<Flat, Stop>
     requires all { length (source_roles source) ≤ length files.now }
@@ -37,24 +49,23 @@ fn design_of(alloc: Global, limits: &Limits, source: Source, files: &[Bytes]) ->
     ensures value { IfOk result (λ flat. Describes limits.now source files.now flat) }
     ensures stop { IfErr result (StopsAt (HasNoDesign limits.now source files.now)) }
 {
-    let _most = limits.most();
     match source {
-        Source::Table => from_table(alloc, limits, files[0].items()),
+        Source::Table => from_table(alloc, limits, file_at(limits, files, 0)),
         Source::Files => from_files(
             alloc,
             limits,
-            files[0].items(),
-            files[1].items(),
-            files[2].items(),
-            files[3].items(),
+            file_at(limits, files, 0),
+            file_at(limits, files, 1),
+            file_at(limits, files, 2),
+            file_at(limits, files, 3),
         ),
         Source::Liberty => from_liberty(
             alloc,
             limits,
-            files[0].items(),
-            files[1].items(),
-            files[2].items(),
-            files[3].items(),
+            file_at(limits, files, 0),
+            file_at(limits, files, 1),
+            file_at(limits, files, 2),
+            file_at(limits, files, 3),
         ),
     }
 }
@@ -143,13 +154,12 @@ pub fn own_file<'a>(limits: &Limits, source: Source, files: &'a [Bytes]) -> &'a 
     ensures value { result.now ≡ own_file source files.now }
     ensures short { length result.now ≤ MOST_BYTES }
 {
-    let _most = limits.most();
     let place = match source {
         Source::Table => 1,
         Source::Files | Source::Liberty => 4,
     };
     if place < files.len() {
-        files[place].items()
+        file_at(limits, files, place)
     } else {
         &[]
     }

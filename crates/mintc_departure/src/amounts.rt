@@ -3,6 +3,7 @@ ghost use Rattle.std.specs.Prelude.{◌≡◌, ◌<◌, ◌+ℤ◌, ◌*ℤ◌, 
 ghost use Rattle.mintc_timing.specs.Clocking.{shift_of};
 ghost use Rattle.mintc_timing.specs.Design.{element_count, pair_at};
 ghost use Rattle.mintc_timing.specs.Limits.{IsDelay, IsModest, IsPhase, IsSpan, IsTime};
+ghost use Rattle.mintc_departure.specs.Clocked.{IsClocked};
 ghost use Rattle.mintc_departure.specs.Networks.{late_start_of, late_travel};
 ghost use Rattle.mintc_departure.specs.Travels.{early_start_of, early_travel};
 
@@ -37,6 +38,7 @@ impl ClockedSystem<'_> {
         ensures value { result ≡ late_travel self.now.system.now.flat self.now.schedule.now
             (pair_at self.now.system.now number) }
         ensures range { IsTime result }
+        ensures kept { IsClocked self.now.system.now self.now.schedule.now }
     {
         let pair = self.system.pair(number);
         let from = self.system.element(pair.from);

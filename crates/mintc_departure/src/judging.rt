@@ -5,6 +5,7 @@ ghost use Rattle.mintc_timing.specs.Design.{element_count, phase_count};
 ghost use Rattle.mintc_timing.specs.Limits.{IsInRange};
 ghost use Rattle.mintc_timing.specs.Violations.{AreViolations, IsLoop, check, failed, hold_checks, loop_amount};
 ghost use Rattle.mintc_timing.specs.Violations.{setup_checks};
+ghost use Rattle.mintc_departure.specs.Clocked.{IsClocked};
 ghost use Rattle.mintc_departure.specs.Settled.{IsSum};
 
 use crate::clock_checks::judge_clock;
@@ -23,7 +24,6 @@ fn loop_excess(clocked: &ClockedSystem<'_>, pairs: &[u32]) -> i64
     requires closed { IsLoop clocked.now.system.now pairs.now }
     ensures { result ≡ loop_amount clocked.now.system.now clocked.now.schedule.now pairs.now }
 {
-    let _count = clocked.count();
     let mut amount = 0;
     for pair in pairs {
         amount += clocked.late_delay(*pair as usize);
@@ -76,6 +76,7 @@ fn judge_elements(
     ensures violations { OnOk result (violations.new.items ≡ violations.old.items
         ++ failed (setup_checks clocked.now.system.now clocked.now.schedule.now room.old.late
         ++ hold_checks clocked.now.system.now clocked.now.schedule.now room.new.early)) }
+    ensures fits { IsClocked clocked.now.system.now clocked.now.schedule.now }
 {
     gather_latest(clocked, room);
     judge_setups(clocked, room, violations)?;
@@ -106,7 +107,6 @@ pub fn violations(
     let clocked = ClockedSystem { system, schedule };
     let mut violations = Vec::new(alloc);
     judge_clock(&clocked, &mut violations)?;
-    let _pairs = system.pairs();
     match late(system, schedule, room) {
         Settling::Settled => {
             judge_elements(alloc, &clocked, room, &mut violations)?;

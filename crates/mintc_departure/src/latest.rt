@@ -5,6 +5,7 @@ ghost use Rattle.mintc_graph_walks.specs.Walks.{value_at};
 ghost use Rattle.mintc_timing.specs.Departures.{late_arrival, late_arrivals};
 ghost use Rattle.mintc_timing.specs.Design.{element_count, pair_at};
 ghost use Rattle.mintc_timing.specs.Extremes.{greatest_of};
+ghost use Rattle.mintc_departure.specs.Clocked.{IsClocked};
 ghost use Rattle.mintc_departure.specs.Excesses.{IsLast};
 ghost use Rattle.mintc_departure.specs.Rounds.{AreSums, IsArrivalSum};
 
@@ -55,6 +56,7 @@ pub(crate) fn gather_latest(clocked: &ClockedSystem<'_>, room: &mut Room)
     ensures each { (l : ℕ) → l < element_count clocked.now.system.now.flat →
         IsLast (greatest_of (late_arrivals clocked.now.system.now clocked.now.schedule.now room.old.late l))
         (value_at room.new.values l) }
+    ensures fits { IsClocked clocked.now.system.now clocked.now.schedule.now }
 {
     fill(room, clocked.count(), LONG_AGO);
     for number in 0..clocked.system.pairs().len() {

@@ -26,7 +26,8 @@ use Rattle.mintc_edges.specs.Spreads.{all_of, all_said, said_to, at_one, begun}
 use Rattle.mintc_edges.specs.Told.{AreTold, HasEnds, to_output, path_told, told_at}
 use Rattle.mintc_edges.specs.Apart.{named_at, no_later_than, merged_element, stored_element}
 use Rattle.mintc_edges.specs.Kept.{leaf_kept}
-use Rattle.mintc_edges.specs.Stored.{output_told, merged_paths_kept, path_said, along_kept, paths_kept, merged_said_kept, said_kept, element_said, stored_elements_kept}
+use Rattle.mintc_annotate.specs.Said.{element_said}
+use Rattle.mintc_edges.specs.Stored.{output_told, merged_paths_kept, path_said, along_kept, paths_kept, merged_said_kept, said_kept, stored_elements_kept}
 use Rattle.mintc_edges.proofs.ArcLaws.{map-same, edges-same, sense-same, outputs-shifted}
 use Rattle.mintc_edges.proofs.OutputLaws.{outputs-whole}
 use Rattle.mintc_edges.proofs.SilentLaws.{says-nothing}

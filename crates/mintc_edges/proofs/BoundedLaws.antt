@@ -33,10 +33,13 @@ use Rattle.mintc_edges.specs.Edges.{only, any, each_edge, edge_name, transitions
 use Rattle.mintc_edges.specs.Numbers.{SenseOf, without_edges, merged_range, wire_range, gate_range, element_range}
 use Rattle.mintc_edges.specs.Apart.{named_at, merged_element, stored_element, port_elements, elements_apart, join_arc_at, join_arcs, gate_arc_at, pin_arcs, gate_arcs_apart, data_arc_at, data_arcs, output_arc_at, output_pin_arcs, stored_arcs, leaf_arcs_apart, input_arc_at, input_arcs_apart, port_arc_at, output_arcs_apart, arcs_apart, names_apart, design_apart}
 use Rattle.mintc_edges.proofs.CoverLaws.{count, few, apart-count}
-use Rattle.mintc_edges.proofs.FitLaws.{IsFit, AreSound, sound-delays, at-fit, element-fit}
+use Rattle.mintc_annotate.proofs.SharedElementLimits.{IsFit}
+use Rattle.mintc_edges.proofs.FitLaws.{AreSound, sound-delays, at-fit, element-fit}
 use Rattle.mintc_edges.proofs.LimitLaws.{twice-long}
 use Rattle.mintc_edges.proofs.OverLaws.{all-edges, all-map}
-use Rattle.mintc_edges.proofs.PartLaws.{edge-element, delay-is, order-is, AreDelays, or-in, KeepsHold, storage-in, none-delays, inner-apart, data-apart, output-apart}
+use Rattle.mintc_annotate.proofs.SharedElementLimits.{delay_is, order_is, AreDelays, or_in, KeepsHold, storage_in}
+use Rattle.mintc_annotate.proofs.SharedArcLimits.{none_delays}
+use Rattle.mintc_edges.proofs.PartLaws.{edge-element, inner-apart, data-apart, output-apart}
 use Rattle.mintc_edges.proofs.TwiceLaws.{Twice, twice-append, twice-each}
 
 flat-all : {A S : Type 0} (P : A → Type 0) (f : S → List A) (xs : List S) → All (λ x. All P (f x)) xs → All P (flat_map f xs)
@@ -59,7 +62,7 @@ gate-delays : (inputs outputs : List (List ℕ)) (least most : ℤ) → is_cell 
 gate-delays inputs outputs least most rules =
     let parts = and_parts _ _ rules in
     let limits = and_parts (is_delay least) (is_delay most) (and_parts _ _ parts.0).1 in
-    (delay-is least limits.0, delay-is most limits.1, order-is least most parts.1)
+    (delay_is least limits.0, delay_is most limits.1, order_is least most parts.1)
 
 -- a number within a whole that is told in parts
 bit-in : (first i k o pins m : ℕ) → first + pins ≤ m → k + o ≡ pins → i < k + o → first + i < m
@@ -73,7 +76,7 @@ module _ (h : Hierarchy) (cells : CellTable) (sense : SenseOf) (ds : List EdgeDe
   Fits = IsArc (2 * n) (2 * m)
 
   wire-delays : (e : Edge) (t : Target) → ((r : ℤ × ℤ) → wire_range h cells ds e t ≡ Some r → AreDelays r) → AreDelays (unwrap_or (wire_range h cells ds e t) no_delay)
-  wire-delays e t fit = or-in (wire_range h cells ds e t) no_delay fit none-delays
+  wire-delays e t fit = or_in (wire_range h cells ds e t) no_delay fit none_delays
 
   joins-fit : (js : List Join) → All (IsJoin h) js → All Fits (flat_map (join_arcs h cells ds n) js)
   joins-fit js all =
@@ -97,19 +100,19 @@ module _ (h : Hierarchy) (cells : CellTable) (sense : SenseOf) (ds : List EdgeDe
       (λ t. inner-apart n m (pin_bit h l i) (pin_bit h l o) t.from t.to (unwrap_or (gate_range h cells ds t (path_on l i o)) default)
       (bit-in (leaf_at h l).first_pin i (input_count cell) (output_count cell) (length (pins cell)) m within (pins-count cell) (omega (arith, less)))
       (bit-in (leaf_at h l).first_pin o (input_count cell) (output_count cell) (length (pins cell)) m within (pins-count cell) high)
-      (or-in (gate_range h cells ds t (path_on l i o)) default (λ q is. let r = at-fit h cells ds (only t.from) (only t.to) (path_on l i o) sound q is in (r.low, r.high, r.ordered)) delays))
+      (or_in (gate_range h cells ds t (path_on l i o)) default (λ q is. let r = at-fit h cells ds (only t.from) (only t.to) (path_on l i o) sound q is in (r.low, r.high, r.ordered)) delays))
       (transitions_of (sense (leaf_at h l).cell i o))))))
 
   stored-fit : (l number : ℕ) (cell : Cell) → (leaf_at h l).first_pin + length (pins cell) ≤ m → 1 ≤ input_count cell → number < n → All Fits (stored_arcs h sense n l number cell)
   stored-fit l number cell within some less =
       All-append Fits (data_arcs h n l number) (flat_map (output_pin_arcs h sense n l number) (output_numbers cell))
       (all-edges Fits (data_arc_at h n l number)
-      (λ e. data-apart n m (pin_bit h l 0) number e e no_delay (bit-in (leaf_at h l).first_pin 0 (input_count cell) (output_count cell) (length (pins cell)) m within (pins-count cell) (omega (arith, some))) less none-delays))
+      (λ e. data-apart n m (pin_bit h l 0) number e e no_delay (bit-in (leaf_at h l).first_pin 0 (input_count cell) (output_count cell) (length (pins cell)) m within (pins-count cell) (omega (arith, some))) less none_delays))
       (flat-all Fits (output_pin_arcs h sense n l number) (output_numbers cell)
       (All-range (λ o. All Fits (output_pin_arcs h sense n l number o)) (input_count cell) (output_count cell)
       (λ o low high.
       all-map Fits (output_arc_at h n l number o)
-      (λ t. output-apart n m (pin_bit h l o) number t.from t.to no_delay (bit-in (leaf_at h l).first_pin o (input_count cell) (output_count cell) (length (pins cell)) m within (pins-count cell) high) less none-delays)
+      (λ t. output-apart n m (pin_bit h l o) number t.from t.to no_delay (bit-in (leaf_at h l).first_pin o (input_count cell) (output_count cell) (length (pins cell)) m within (pins-count cell) high) less none_delays)
       (transitions_of (sense (leaf_at h l).cell 0 o)))))
 
   leaf-fit : (l : ℕ) (cell : Cell) → (leaf_at h l).first_pin + length (pins cell) ≤ m → is_cell cell ≡ true → (is_storage cell ≡ true → number_in h cells l < n) → All Fits (leaf_arcs_apart h cells sense ds n l cell)
@@ -122,7 +125,7 @@ module _ (h : Hierarchy) (cells : CellTable) (sense : SenseOf) (ds : List EdgeDe
   inputs-fit k [] enough within = All-nil Fits
   inputs-fit k (x ∷ xs) enough within =
       All-append Fits (each_edge (input_arc_at n k x)) (input_arcs_apart n (k + 1) xs)
-      (all-edges Fits (input_arc_at n k x) (λ e. output-apart n m x.1 k e e no_delay (All-head (λ (x : Listed × ℕ). x.1 < m) x xs within) (omega (arith, enough)) none-delays))
+      (all-edges Fits (input_arc_at n k x) (λ e. output-apart n m x.1 k e e no_delay (All-head (λ (x : Listed × ℕ). x.1 < m) x xs within) (omega (arith, enough)) none_delays))
       (inputs-fit (k + 1) xs (omega (arith, enough)) (All-tail (λ (x : Listed × ℕ). x.1 < m) x xs within))
 
   outputs-fit : (k : ℕ) (xs : List (Listed × ℕ)) → k + length xs ≤ n → All (λ (x : Listed × ℕ). x.1 < m) xs → All Fits (output_arcs_apart h cells ds n k xs)
@@ -159,8 +162,8 @@ all-bits h output (x ∷ xs) ports =
 -- where one of a cell is within its limits, one of other numbers is
 own-by : (wide narrow : RangeOf) → ((t : Target) → IsFit t (narrow t)) → (name : List ℕ) (l phase k : ℕ) (cell : Cell) → (is_storage cell ≡ true → is_cell cell ≡ true) → KeepsHold cell → IsElement k (element_of wide name l phase cell) →
     IsElement k (element_of narrow name l phase cell)
-own-by wide narrow fit name l phase k (Latch a b c d e2 f g i j k2 m n o p) rules keeps is = storage-in narrow fit name l phase k (Latch a b c d e2 f g i j k2 m n o p) (rules refl) keeps refl is.phase
-own-by wide narrow fit name l phase k (Flop a b c d e2 f g i j k2 m) rules keeps is = storage-in narrow fit name l phase k (Flop a b c d e2 f g i j k2 m) (rules refl) keeps refl is.phase
+own-by wide narrow fit name l phase k (Latch a b c d e2 f g i j k2 m n o p) rules keeps is = storage_in narrow fit name l phase k (Latch a b c d e2 f g i j k2 m n o p) (rules refl) keeps refl is.phase
+own-by wide narrow fit name l phase k (Flop a b c d e2 f g i j k2 m) rules keeps is = storage_in narrow fit name l phase k (Flop a b c d e2 f g i j k2 m) (rules refl) keeps refl is.phase
 own-by wide narrow fit name l phase k (Gate a b c d) rules keeps is = is
 own-by wide narrow fit name l phase k (Clock a b c d) rules keeps is = is
 

@@ -10,6 +10,7 @@ use Rattle.mintc_sdf.specs.Laws.{IsWithin}
 use Rattle.mintc_sdf_edges.specs.declared.delays.EdgeDelay.{EdgeDelay}
 use Rattle.mintc_sdf_edges.specs.declared.delays.Edges.{Edges}
 use Rattle.mintc_annotate_resolve.proofs.SharedRangeLimits.{IsOf, IsRange, all_said, range_in}
+use Rattle.mintc_annotate.proofs.SharedElementLimits.{IsFit}
 use Rattle.mintc_cells.specs.Rules.{pins}
 use Rattle.mintc_annotate.specs.Made.{is_latch}
 use Rattle.mintc_annotate_resolve.specs.Pins.{leaf_at, leaf_cell, output_numbers}
@@ -17,10 +18,6 @@ use Rattle.mintc_annotate_resolve.specs.Resolution.{Target, path_on, join_into, 
 use Rattle.mintc_edges.specs.declared.edge.Edge.{Edge}
 use Rattle.mintc_edges.specs.Edges.{only, any, ends_of}
 use Rattle.mintc_edges.specs.Numbers.{SenseOf, without_edges, merged_range, range_at, speaks_of, leads_to, pin_ranges, stored_range, element_range, wider, widest}
-
--- what is said, if anything, is within the limits of a target
-abbrev pub IsFit : Target → Option (ℤ × ℤ) → Type 0
-IsFit m o = (r : ℤ × ℤ) → o ≡ Some r → IsRange m r
 
 fit-none : (m : Target) → IsFit m None
 fit-none m r e = absurd (cc)

@@ -42,10 +42,11 @@ use Rattle.mintc_edges.specs.Numbers.{SenseOf, sense_of, without_edges}
 use Rattle.mintc_edges.specs.Apart.{named_at, no_later_than, port_elements, names_apart, design_apart, IsApart, IsEdgeDesign, IsEdgeRefusal, no_port, annotates_nothing, no_phase}
 use Rattle.mintc_edges.specs.Gathered.{AreGathered, IsResolved, design_of_gathered}
 use Rattle.mintc_edges.specs.Kept.{leaf_kept}
-use Rattle.mintc_edges.specs.Stored.{merged_said_kept, said_kept, element_said}
+use Rattle.mintc_annotate.specs.Said.{element_said}
+use Rattle.mintc_edges.specs.Stored.{merged_said_kept, said_kept}
 use Rattle.mintc_edges.specs.Whole.{leaf_elements_kept, elements_kept, arcs_kept, design_kept}
 use Rattle.mintc_edges.proofs.LimitLaws.{twice-long, arcs-long}
-use Rattle.mintc_edges.proofs.ToldLimitLaws.{limits_alike}
+use Rattle.mintc_annotate.proofs.SharedCountLaws.{limits_alike}
 use Rattle.mintc_edges.proofs.WholeLaws.{design-same}
 
 -- ---- refusals

@@ -26,8 +26,6 @@ mod EndLaws
 mod StepLaws
 mod AptLaws
 mod TakenLaws
-mod GroupLaws
 mod BoundedLaws
-mod ToldLimitLaws
 mod GatheredLaws
 mod BitLaws

@@ -25,7 +25,8 @@ use Rattle.mintc_edges.specs.Edges.{only, any, share}
 use Rattle.mintc_edges.specs.Matters.{end_of, matter_of}
 use Rattle.mintc_edges.specs.Numbers.{speaks_of, leads_to}
 use Rattle.mintc_edges.specs.Spreads.{at_one, begun, widened_by}
-use Rattle.mintc_edges.specs.Told.{same_key, path_told, told_at, is_path, is_join, is_port, is_setup, is_hold, is_width, IsToldMore}
+use Rattle.mintc_annotate_delays.specs.Ranges.{same_key}
+use Rattle.mintc_edges.specs.Told.{path_told, told_at, is_path, is_join, is_port, is_setup, is_hold, is_width, IsToldMore}
 use Rattle.mintc_edges.proofs.ClaimLaws.{taken, in_edges, at-widened, along-widened}
 use Rattle.mintc_edges.proofs.EndLaws.{not-both, one-output}
 

@@ -1,28 +1,19 @@
 -- Delays taken in one after another.
 use Rattle.std.proofs.Common.{◌≡◌, ◌<◌, ◌+◌, ℕ, List, [], ◌∷◌, ◌++◌, length, take, drop, get_or, Option, Some, None, Result, Ok, Err, refl, sym, ap, ◌∙◌, subst, arith, append_assoc, append-nil}
-use Rattle.std.specs.Option.{option_or}
 use Rattle.std.specs.Result.{OnOk}
 use Rattle.std.proofs.lemmas.List.{map-append, take_more, drop_more, take-append-drop}
 use Rattle.std.proofs.lemmas.List.Concat.{flat_map-append}
 use Rattle.mintc_text.specs.declared.refusals.Refusal.{Refusal}
-use Rattle.mintc_text.specs.declared.refusals.Stop.{Stop}
-use Rattle.mintc_text.specs.declared.refusals.Stop.TheVariants as stop
-use Rattle.mintc_text.specs.Stops.{StopsAt}
 use Rattle.mintc_cells.specs.Entries.{AreKept}
-use Rattle.mintc_sdf.specs.declared.delays.Delay.{Delay}
-use Rattle.mintc_sdf.specs.declared.delays.Place.{Place}
-use Rattle.mintc_sdf.specs.declared.delays.Place.TheVariants.{Top, Every, Path}
-use Rattle.mintc_sdf.specs.declared.delays.Subject.{Subject}
 use Rattle.mintc_sdf_edges.specs.declared.delays.EdgeDelay.{EdgeDelay}
 use Rattle.mintc_sdf_edges.specs.Laws.{HasEdges}
 use Rattle.mintc_flatten_hierarchy.specs.declared.hierarchy.Hierarchy.{Hierarchy}
 use Rattle.mintc_flatten_hierarchy.specs.Shape.{CellTable}
 use Rattle.mintc_annotate_resolve.specs.declared.targets.Target.{Target as Annotated}
 use Rattle.mintc_annotate_resolve.specs.declared.targets.Target.TheVariants as annotated
-use Rattle.mintc_annotate_resolve.specs.Resolution.{Target, Resolved, of, of_leaf, together, of_each, of_instance, of_place, leaf_called, resolved, targets, refusal_of, first_refusal}
+use Rattle.mintc_annotate_resolve.specs.Resolution.{Target, Resolved, of, together, resolved, targets, refusal_of, first_refusal}
 use Rattle.mintc_annotate_resolve.specs.Targets.{target_of, IsThere}
-use Rattle.mintc_annotate_resolve.proofs.SharedInstanceLaws.{no_leaf_at_top}
-use Rattle.mintc_annotate_delays.specs.Gathered.{path_of}
+use Rattle.mintc_annotate_delays.proofs.SharedDelayLaws.{refusal_append}
 use Rattle.mintc_annotate.proofs.SharedPartLaws.{stored_rules}
 use Rattle.mintc_edges.specs.declared.matters.Matter.{Matter}
 use Rattle.mintc_edges.specs.declared.told.Told.{Told}
@@ -100,65 +91,7 @@ pub on-ok-both : {A E P Q R : Type 0} (r : Result A E) → (P → Q → R) → O
 on-ok-both (Ok x) f p q = f p q
 on-ok-both (Err e) f p q = tt
 
--- ---- leaf after leaf
-together_nil : (a : Resolved) → together a (of []) ≡ a
-together_nil (of ms) = ap of (append-nil ms)
-together_nil _ = refl
-
-together_assoc : (a b c : Resolved) → together a (together b c) ≡ together (together a b) c
-together_assoc (of ms) (of ns) (of os) = ap of (sym (append_assoc ms ns os))
-together_assoc _ _ _ = refl
-
-of_nil : (a : Resolved) → together (of []) a ≡ a
-of_nil (of ms) = refl
-of_nil _ = refl
-
-each_append : (h : Hierarchy) (cells : CellTable) (s : Subject) (xs ys : List ℕ) → of_each h cells s (xs ++ ys) ≡ together (of_each h cells s xs) (of_each h cells s ys)
-each_append h cells s [] ys = sym (of_nil (of_each h cells s ys))
-each_append h cells s (x ∷ xs) ys = ap (together (of_leaf h cells x s)) (each_append h cells s xs ys) ∙ together_assoc (of_leaf h cells x s) (of_each h cells s xs) (of_each h cells s ys)
-
-pub each_more : (h : Hierarchy) (cells : CellTable) (s : Subject) (ls : List ℕ) (k d : ℕ) → k < length ls → of_each h cells s (take (k + 1) ls) ≡ together (of_each h cells s (take k ls)) (of_leaf h cells (get_or ls k d) s)
-each_more h cells s ls k d within = rw (take_more ls k d within, each_append h cells s (take k ls) (get_or ls k d ∷ []), together_nil) refl
-
--- a refusal after a front that isn't refused
-refused_at : (entry : ℕ) (a b c : Resolved) (r : Refusal) → refusal_of entry a ≡ None → refusal_of entry b ≡ Some r → refusal_of entry (together a (together b c)) ≡ Some r
-refused_at entry (of ms) (of ns) c r front here = absurd (cc)
-refused_at entry (of ms) _ c r front here = here
-refused_at entry _ b c r front here = absurd (cc)
-
-pub each_refused : (h : Hierarchy) (cells : CellTable) (s : Subject) (ls : List ℕ) (k d entry : ℕ) (r : Refusal) → k < length ls → refusal_of entry (of_each h cells s (take k ls)) ≡ None → refusal_of entry (of_leaf h cells (get_or ls k d) s) ≡ Some r →
-    refusal_of entry (of_each h cells s ls) ≡ Some r
-each_refused h cells s ls k d entry r within front here =
-    ap (λ (l : List ℕ). refusal_of entry (of_each h cells s l)) (sym (take-append-drop k ls) ∙ ap (λ (l : List ℕ). take k ls ++ l) (drop_more ls k d within))
-    ∙ ap (refusal_of entry) (each_append h cells s (take k ls) (get_or ls k d ∷ drop (k + 1) ls))
-    ∙ refused_at entry (of_each h cells s (take k ls)) (of_leaf h cells (get_or ls k d) s) (of_each h cells s (drop (k + 1) ls)) r front here
-
--- ---- stops
-pub stops_more : (P Q : Refusal → Type 0) → ((r : Refusal) → P r → Q r) → (s : Stop) → StopsAt P s → StopsAt Q s
-stops_more P Q more (stop.Refused r) known = more r known
-stops_more P Q more stop.OutOfMemory known = tt
-
--- ---- at the one instance of a place
-resolved_at : (h : Hierarchy) (cells : CellTable) (d : Delay) (place : Place) (path : List (List ℕ)) → path_of place ≡ Some path → of_instance h cells path d.subject (leaf_called h path) ≡ of_place h cells d place
-resolved_at h cells d Top path is =
-    let top : [] ≡ path = cc in
-    subst (λ (p : List (List ℕ)). of_instance h cells p d.subject (leaf_called h p) ≡ of_place h cells d Top) top (ap (of_instance h cells [] d.subject) (no_leaf_at_top h))
-resolved_at h cells d Every path is = absurd (cc)
-resolved_at h cells d (Path named) path is =
-    let same : named ≡ path = cc in
-    subst (λ (p : List (List ℕ)). of_instance h cells p d.subject (leaf_called h p) ≡ of_place h cells d (Path named)) same refl
-
-pub path_resolved : (h : Hierarchy) (cells : CellTable) (d : Delay) (path : List (List ℕ)) → path_of d.place ≡ Some path → of_instance h cells path d.subject (leaf_called h path) ≡ resolved h cells d
-path_resolved h cells d path is = resolved_at h cells d d.place path is
-
 -- ---- delay after delay
-or_assoc : (a b c : Option Refusal) → option_or a (option_or b c) ≡ option_or (option_or a b) c
-or_assoc a b c = grind arith
-
-refusal_append : (h : Hierarchy) (cells : CellTable) (xs ys : List Delay) → first_refusal h cells (xs ++ ys) ≡ option_or (first_refusal h cells xs) (first_refusal h cells ys)
-refusal_append h cells [] ys = refl
-refusal_append h cells (d ∷ xs) ys = rw (refusal_append h cells xs ys, or_assoc) refl
-
 pub unrefused_more : (h : Hierarchy) (cells : CellTable) (ds : List EdgeDelay) (k : ℕ) (d : EdgeDelay) → k < length ds → d ≡ get_or ds k d → first_refusal h cells (without_edges (take k ds)) ≡ None → refusal_of d.delay.entry (resolved h cells d.delay) ≡ None →
     first_refusal h cells (without_edges (take (k + 1) ds)) ≡ None
 unrefused_more h cells ds k d within is before here =

@@ -1,5 +1,5 @@
 -- Latches and flops by the table of all that delays say, with outputs counted among a cell's outputs.
-use Rattle.std.specs.Prelude.{◌≤◌, ℕ, ◌+◌, ◌==◌, ℤ, List, map, Option, None, if◌then◌else◌}
+use Rattle.std.specs.Prelude.{◌≤◌, ℕ, ◌+◌, ◌==◌, ℤ, List, map, Option, if◌then◌else◌}
 use Rattle.std.specs.List.{range_with_len}
 use Rattle.std.specs.Option.{option_or}
 use Rattle.mintc_cells.specs.declared.cell.Cell.{Cell}
@@ -7,11 +7,11 @@ use Rattle.mintc_senses.specs.Senses.{sense_at}
 use Rattle.mintc_senses_expressions.specs.declared.transitions.Transitions.{Transitions}
 use Rattle.mintc_text.specs.declared.limits.TheConstants.{MOST_INNER}
 use Rattle.mintc_timing.specs.declared.parts.Element.{Element}
-use Rattle.mintc_annotate_resolve.specs.Resolution.{dq_of, cq_of, setup_of, hold_of, width_of}
-use Rattle.mintc_annotate.specs.Made.{RangeOf, is_flop, element_of}
+use Rattle.mintc_annotate.specs.declared.stored.SaidOf.{SaidOf}
+use Rattle.mintc_annotate.specs.Made.{is_flop}
+use Rattle.mintc_annotate.specs.Said.{element_said}
 use Rattle.mintc_edges.specs.declared.arcs.LeafAt.{LeafAt}
 use Rattle.mintc_edges.specs.declared.edge.Edge.{Edge}
-use Rattle.mintc_edges.specs.declared.elements.SaidOf.{SaidOf}
 use Rattle.mintc_edges.specs.declared.spreads.Spread.{Spread}
 use Rattle.mintc_edges.specs.declared.told.Told.{Told}
 use Rattle.mintc_edges.specs.Edges.{each_edge, ends_of, edge_name}
@@ -72,19 +72,6 @@ said_kept told senses stored cell e = record {
   hold = at_or_all (told_at told.holds.items stored.leaf) e;
   width = all_of (told_at told.widths.items stored.leaf);
 }
-
--- that as the ranges of a leaf, whichever leaf it is
-abbrev pub ranges_of : SaidOf → RangeOf
-ranges_of said (dq_of l) = said.dq
-ranges_of said (cq_of l) = said.cq
-ranges_of said (setup_of l) = said.setup
-ranges_of said (hold_of l) = said.hold
-ranges_of said (width_of l) = said.width
-ranges_of said _ = None
-
--- the element of a latch or flop of which this is said
-abbrev pub element_said : SaidOf → List ℕ → ℕ → Cell → Element
-element_said said name phase cell = element_of (ranges_of said) name 0 phase cell
 
 -- the two elements of a latch or flop
 abbrev pub stored_elements_kept : Told → List (List (List Transitions)) → LeafAt → List ℕ → ℕ → Cell → List Element

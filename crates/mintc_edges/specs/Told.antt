@@ -1,5 +1,5 @@
 -- What the table of all that delays say holds.
-use Rattle.std.specs.Prelude.{◌≡◌, ◌<◌, ℕ, Bool, true, false, cond, nat_eq, ◌&&◌, List, [], length, slice_index_or}
+use Rattle.std.specs.Prelude.{◌≡◌, ◌<◌, ℕ, Bool, true, false, cond, nat_eq, List, [], length, slice_index_or}
 use Rattle.std.specs.Prelude.{slice_set, filter, unwrap_or}
 use Rattle.std.specs.HashMap.{HashMap, get}
 use Rattle.mintc_cells.specs.Rules.{pins}
@@ -10,6 +10,7 @@ use Rattle.mintc_sdf_edges.specs.declared.delays.EdgeDelay.{EdgeDelay}
 use Rattle.mintc_annotate_resolve.specs.Pins.{leaf_cell, is_storage}
 use Rattle.mintc_annotate_resolve.specs.Resolution.{Target, path_on, join_into, arcs_from, dq_of, cq_of, setup_of}
 use Rattle.mintc_annotate_resolve.specs.Resolution.{hold_of, width_of}
+use Rattle.mintc_annotate_delays.specs.Ranges.{same_key}
 use Rattle.mintc_annotate.specs.Made.{is_latch, is_flop}
 use Rattle.mintc_edges.specs.declared.edge.Edge.{Edge}
 use Rattle.mintc_edges.specs.declared.matters.Matter.{Matter}
@@ -21,10 +22,6 @@ use Rattle.mintc_edges.specs.declared.told.Said.{Said}
 use Rattle.mintc_edges.specs.Edges.{only, any}
 use Rattle.mintc_edges.specs.Numbers.{merged_range, speaks_of, to_pin}
 use Rattle.mintc_edges.specs.Spreads.{no_edges, no_spread, widened_by, widened_along, at_one, begun}
-
--- whether two keys are one
-abbrev pub same_key : ℕ × ℕ × ℕ → ℕ × ℕ × ℕ → Bool
-same_key x y = (nat_eq x.0 y.0 && nat_eq x.1 y.1) && nat_eq x.2 y.2
 
 -- what a map tells of a key
 module _ {S : Type 0} where

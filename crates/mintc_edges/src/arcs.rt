@@ -9,7 +9,7 @@ ghost use Rattle.mintc_senses.specs.Senses.{sense_at};
 ghost use Rattle.mintc_senses_expressions.specs.Transitions.{has};
 ghost use Rattle.mintc_timing.specs.Paths.{output_of};
 ghost use Rattle.mintc_annotate.specs.Counts.{with_port};
-ghost use Rattle.mintc_annotate.specs.Made.{arc_of, no_delay, number_in};
+ghost use Rattle.mintc_annotate.specs.Made.{arc_of, no_delay};
 ghost use Rattle.mintc_annotate.specs.Phases.{storage};
 ghost use Rattle.mintc_edges.specs.Edges.{each_edge, at_edge, is_rise};
 ghost use Rattle.mintc_edges.specs.Apart.{bit_apart, input_arcs_apart};
@@ -23,10 +23,9 @@ use crate::edge::{
     Edge, FALL_TO_FALL, FALL_TO_RISE, RISE_TO_FALL, RISE_TO_RISE, Transition, makes,
 };
 use crate::told::Told;
-use mintc_annotate::ListedBit;
-use mintc_annotate_resolve::is_storage;
-use mintc_cells::{Cell, Cells};
-use mintc_flatten_hierarchy::{Hierarchy, Join};
+use mintc_annotate::{ListedBit, next_element, push_arc};
+use mintc_cells::Cell;
+use mintc_flatten_hierarchy::Join;
 use mintc_text::OutOfMemory;
 use mintc_timing::TimingArc;
 
@@ -49,24 +48,6 @@ fn bit_apart(elements: u32, bit: u32, edge: Edge) -> u32
     ensures { result ≡ bit_apart elements bit edge }
 {
     4 * elements + edge.at(bit)
-}
-
-/// Adds an arc.
-fn push_arc(
-    found: &mut Vec<TimingArc>,
-    from: u32,
-    to: u32,
-    delay: (i64, i64),
-) -> Result<(), OutOfMemory>
-    ensures { OnOk result (found.new.items ≡ found.old.items ++ arc_of from to delay ∷ []) }
-{
-    found.push(TimingArc {
-        from,
-        to,
-        min: delay.0,
-        max: delay.1,
-    })?;
-    Ok(())
 }
 
 /// Adds the arc of a join at an edge.
@@ -372,22 +353,6 @@ fn push_leaf(
         Cell::Gate { min, max, .. } => push_gate(found, apart, known, (*min, *max)),
         Cell::Latch { .. } | Cell::Flop { .. } => push_stored(found, apart, known, element),
         Cell::Clock { .. } => Ok(()),
-    }
-}
-
-/// The number of the next latch or flop after a leaf.
-pub(crate) fn next_element(hierarchy: &Hierarchy, cells: &Cells, leaf: u32, element: u32) -> u32
-    requires shape { IsFlattened cells.now hierarchy.now }
-    requires leaf { leaf < length hierarchy.now.leaves }
-    requires element { element ≡ number_in hierarchy.now cells.now leaf }
-    requires small { element ≤ leaf }
-    ensures value { result ≡ number_in hierarchy.now cells.now (leaf + 1) }
-    ensures small { result ≤ leaf + 1 }
-{
-    if is_storage(cells.cell(hierarchy.leaves.items()[leaf as usize].cell)) {
-        element + 1
-    } else {
-        element
     }
 }
 

@@ -1,5 +1,5 @@
 //! The design with edges kept apart.
-ghost use Rattle.std.specs.Prelude.{◌≡◌, ◌<◌, ◌≤◌, ◌+◌, ◌*◌, ◌^◌, ℕ, min, length, map, flat_map, true, false, None};
+ghost use Rattle.std.specs.Prelude.{◌≡◌, ◌<◌, ◌≤◌, ◌+◌, ◌*◌, ◌^◌, ℕ, min, length, flat_map, true, false, None};
 ghost use Rattle.std.specs.Prelude.{All, IfOk, MatchResult};
 ghost use Rattle.mintc_text.specs.Limits.{AreLimits};
 ghost use Rattle.mintc_text.specs.Stops.{StopsAt};
@@ -29,16 +29,16 @@ use crate::edge::Edge;
 use crate::elements::{push_ports, push_storage};
 use crate::gathering::gather_told;
 use crate::told::Told;
-use mintc_annotate::{ListedBits, clock_ports, listed_bits, trace_all};
+use mintc_annotate::{ListedBits, clock_ports, copy_bounds, listed_bits, phase_names, trace_all};
 use mintc_annotate_resolve::inner_names;
 use mintc_cells::Cells;
-use mintc_clock::{Clock, PhaseDef, clocks_keep_limits};
+use mintc_clock::{Clock, clocks_keep_limits};
 use mintc_flatten_hierarchy::{Hierarchy, hierarchies_are_in_shape};
 use mintc_sdf_edges::{EdgeDelays, edge_delays_are_within, edge_delays_have_edges};
 use mintc_senses::Senses;
 use mintc_text::limits::MOST_TOLD;
 use mintc_text::{Limits, Name, Names, Numbers, OutOfMemory, Refusal, Stop};
-use mintc_timing::{Bound, Element, Flat, TimingArc, first_over};
+use mintc_timing::{Element, Flat, TimingArc, first_over};
 use std::alloc::Global;
 
 /// What inner bits are called in the merged design, what delays say, the phases of latches and flops, and how many bits
@@ -209,27 +209,6 @@ fn arcs(
         &bits.outputs,
     )?;
     Ok(found)
-}
-
-/// The names of phases.
-fn phase_names(alloc: Global, phases: &[PhaseDef]) -> Result<Vec<Name>, OutOfMemory>
-    ensures { IfOk result (λ v. v.items ≡ map (λ p. p.name) phases.now) }
-{
-    let mut names = Vec::new(alloc);
-    for phase in phases {
-        let name = phase.name.copy(alloc)?;
-        names.push(name)?;
-    }
-    Ok(names)
-}
-
-/// The same bounds once more.
-fn copy_bounds(alloc: Global, bounds: &[Bound]) -> Result<Vec<Bound>, OutOfMemory>
-    ensures { IfOk result (λ v. v.items ≡ bounds.now) }
-{
-    let mut copy = Vec::new(alloc);
-    copy.extend_from_slice(bounds)?;
-    Ok(copy)
 }
 
 /// What inner bits are called at each edge.

@@ -1,12 +1,13 @@
 //! The elements of the design.
 ghost use Rattle.std.specs.Prelude.{◌≡◌, ◌<◌, ◌+◌, ◌++◌, ◌∷◌, [], ◌-ℤ◌, pos, length, map, flat_map};
-ghost use Rattle.std.specs.Prelude.{slice_index_or, zip, true, false, All, MatchOption, IfOk, OnOk, if◌then◌else◌};
+ghost use Rattle.std.specs.Prelude.{slice_index_or, zip, true, false, All, IfOk, OnOk, if◌then◌else◌};
 ghost use Rattle.std.specs.Int.{int_max};
 ghost use Rattle.mintc_flatten_hierarchy.specs.Shape.{IsFlattened};
 ghost use Rattle.mintc_annotate_resolve.specs.Names.{HasNames};
 ghost use Rattle.mintc_annotate_resolve.specs.Pins.{leaf_cell, leaf_path, dotted, is_storage};
 ghost use Rattle.mintc_annotate.specs.Counts.{with_port, IsListedBit};
-ghost use Rattle.mintc_annotate.specs.Made.{first_range, unless_own_cq, greatest_or, is_latch, is_flop, port_element};
+ghost use Rattle.mintc_annotate.specs.Made.{port_element};
+ghost use Rattle.mintc_annotate.specs.Said.{element_said};
 ghost use Rattle.mintc_annotate.specs.Phases.{storage};
 ghost use Rattle.mintc_senses_expressions.specs.Transitions.{has};
 ghost use Rattle.mintc_edges.specs.Edges.{each_edge, edge_name, is_rise};
@@ -15,14 +16,14 @@ ghost use Rattle.mintc_edges.specs.Apart.{named_at, no_later_than};
 ghost use Rattle.mintc_edges.specs.Kept.{leaf_kept};
 ghost use Rattle.mintc_cells.specs.Entries.{cell_at};
 ghost use Rattle.mintc_edges.specs.Stored.{merged_paths_kept, path_said, along_kept, paths_kept, merged_said_kept};
-ghost use Rattle.mintc_edges.specs.Stored.{said_kept, element_said, stored_elements_kept, HasFewPins};
+ghost use Rattle.mintc_edges.specs.Stored.{said_kept, stored_elements_kept, HasFewPins};
 
 use crate::apart::Apart;
-use crate::arcs::{LeafAt, leaf_at, next_element};
+use crate::arcs::{LeafAt, leaf_at};
 use crate::edge::{Edge, makes};
 use crate::matters::first_pin;
 use crate::spreads::{Spread, wider};
-use mintc_annotate::{ListedBit, leaf_name};
+use mintc_annotate::{ListedBit, SaidOf, element_of, leaf_name, listed_element, next_element};
 use mintc_annotate_resolve::is_storage;
 use mintc_cells::Cell;
 use mintc_clock::Listed;
@@ -30,16 +31,6 @@ use mintc_senses_expressions::Transitions;
 use mintc_text::{Name, OutOfMemory};
 use mintc_timing::Element;
 use std::alloc::Global;
-
-/// What is said of a latch or flop whose data comes at one edge, or at any.
-#[derive(Clone, Copy)]
-pub(crate) struct SaidOf {
-    dq: Option<(i64, i64)>,
-    cq: Option<(i64, i64)>,
-    setup: Option<(i64, i64)>,
-    hold: Option<(i64, i64)>,
-    width: Option<(i64, i64)>,
-}
 
 /// What is said of the paths from a pin of a latch or flop to all its outputs, whatever the edge.
 fn merged_paths(apart: &Apart<'_>, stored: LeafAt, from: u32) -> Option<(i64, i64)>
@@ -141,121 +132,6 @@ fn said_at(apart: &Apart<'_>, stored: LeafAt, cell: &Cell, edge: Edge) -> SaidOf
         setup: apart.told.setup(stored.leaf).at(edge),
         hold: apart.told.hold(stored.leaf).at(edge),
         width: apart.told.width(stored.leaf).all(),
-    }
-}
-
-/// The first range that is there.
-fn first_range(
-    said: Option<(i64, i64)>,
-    other: Option<(i64, i64)>,
-    default: (i64, i64),
-) -> (i64, i64)
-    ensures { result ≡ first_range said other default }
-{
-    match said {
-        Some(range) => range,
-        None => match other {
-            Some(range) => range,
-            None => default,
-        },
-    }
-}
-
-/// The range that stands for another, unless the cell has delays of its own from the enable.
-fn unless_own_cq(has_cq: bool, other: Option<(i64, i64)>) -> Option<(i64, i64)>
-    ensures { result ≡ unless_own_cq has_cq other }
-{
-    if has_cq { None } else { other }
-}
-
-/// The greatest number that is said, else the default.
-fn greatest_or(said: Option<(i64, i64)>, default: i64) -> i64
-    ensures { result ≡ greatest_or said default }
-{
-    match said {
-        Some(range) => range.1,
-        None => default,
-    }
-}
-
-/// The element of a latch of which this is said; None of any other cell.
-fn latch_element(said: SaidOf, name: Name, phase: u32, cell: &Cell) -> Option<Element>
-    ensures { MatchOption result (is_latch cell.now ≡ false) (λ e. e ≡ element_said said name phase cell.now) }
-{
-    match cell {
-        Cell::Latch {
-            setup,
-            hold,
-            has_hold,
-            dq_min,
-            dq_max,
-            cq_min,
-            cq_max,
-            has_cq,
-            width,
-            ..
-        } => {
-            let dq = first_range(said.dq, unless_own_cq(*has_cq, said.cq), (*dq_min, *dq_max));
-            let cq = first_range(said.cq, unless_own_cq(*has_cq, said.dq), (*cq_min, *cq_max));
-            Some(Element {
-                name,
-                phase,
-                flop: false,
-                setup: greatest_or(said.setup, *setup),
-                hold: greatest_or(said.hold, *hold),
-                has_hold: said.hold.is_some() || *has_hold,
-                dq_min: dq.0,
-                dq_max: dq.1,
-                cq_min: cq.0,
-                cq_max: cq.1,
-                width: greatest_or(said.width, *width),
-            })
-        }
-        Cell::Flop { .. } | Cell::Gate { .. } | Cell::Clock { .. } => None,
-    }
-}
-
-/// The element of a flop of which this is said; None of any other cell.
-fn flop_element(said: SaidOf, name: Name, phase: u32, cell: &Cell) -> Option<Element>
-    ensures { MatchOption result (is_flop cell.now ≡ false) (λ e. e ≡ element_said said name phase cell.now) }
-{
-    match cell {
-        Cell::Flop {
-            setup,
-            hold,
-            has_hold,
-            cq_min,
-            cq_max,
-            width,
-            ..
-        } => {
-            let cq = said.dq.unwrap_or((*cq_min, *cq_max));
-            Some(Element {
-                name,
-                phase,
-                flop: true,
-                setup: greatest_or(said.setup, *setup),
-                hold: greatest_or(said.hold, *hold),
-                has_hold: said.hold.is_some() || *has_hold,
-                dq_min: cq.0,
-                dq_max: cq.1,
-                cq_min: cq.0,
-                cq_max: cq.1,
-                width: greatest_or(said.width, *width),
-            })
-        }
-        Cell::Latch { .. } | Cell::Gate { .. } | Cell::Clock { .. } => None,
-    }
-}
-
-/// The element of a latch or flop of which this is said; None of any other cell.
-fn element_of(said: SaidOf, name: Name, phase: u32, cell: &Cell) -> Option<Element>
-    ensures { MatchOption result (is_storage cell.now ≡ false) (λ e. e ≡ element_said said name phase cell.now) }
-{
-    match cell {
-        Cell::Latch { .. } => latch_element(said, name, phase, cell),
-        Cell::Flop { .. } => flop_element(said, name, phase, cell),
-        Cell::Gate { .. } | Cell::Clock { .. } => None,
     }
 }
 
@@ -393,19 +269,7 @@ fn port_element_at(
     ensures { IfOk result (λ e. e ≡ named_at edge (port_element (name.now ∷ []) (listed.now, 0))) }
 {
     let name = edge.name(alloc, name.bytes())?;
-    Ok(Element {
-        name,
-        phase: listed.phase,
-        flop: false,
-        setup: listed.setup,
-        hold: listed.hold,
-        has_hold: listed.has_hold,
-        dq_min: listed.min,
-        dq_max: listed.max,
-        cq_min: listed.min,
-        cq_max: listed.max,
-        width: 0,
-    })
+    Ok(listed_element(name, listed))
 }
 
 /// Adds the two elements of a bit of a listed port.

@@ -1,6 +1,6 @@
 //! What all delays say, by transitions.
 ghost use Rattle.std.specs.Prelude.{◌≡◌, ◌<◌, ◌∷◌, [], ℕ, length, slice_index_or, None, Some, All, IfOk, IfErr, OnOk};
-ghost use Rattle.std.specs.Prelude.{MatchOption, MatchResult};
+ghost use Rattle.std.specs.Prelude.{MatchResult};
 ghost use Rattle.mintc_text.specs.Stops.{StopsAt};
 ghost use Rattle.mintc_cells.specs.Entries.{AreOrdered};
 ghost use Rattle.mintc_flatten_hierarchy.specs.Shape.{IsFlattened};
@@ -12,7 +12,7 @@ ghost use Rattle.mintc_annotate_resolve.specs.declared.targets.Resolved.TheVaria
 ghost use Rattle.mintc_annotate_resolve.specs.Targets.{target_of, targets_of, resolved_of, IsThere, AreThere};
 ghost use Rattle.mintc_annotate_resolve.specs.Instances.{IsAt};
 ghost use Rattle.mintc_annotate_resolve.specs.Lookups.{IsLookup};
-ghost use Rattle.mintc_annotate_delays.specs.Gathered.{AreGrouped, IsGroupedIn, path_of};
+ghost use Rattle.mintc_annotate_delays.specs.Groups.{AreGrouped};
 ghost use Rattle.mintc_edges.specs.Numbers.{without_edges};
 ghost use Rattle.mintc_edges.specs.Claims.{IsApt, IsTakenIn, begins_at_clock, said_of};
 ghost use Rattle.mintc_edges.specs.Told.{HasRoom, IsUntold, AreTold};
@@ -20,22 +20,16 @@ ghost use Rattle.mintc_edges.specs.Told.{HasRoom, IsUntold, AreTold};
 use crate::edge::ANY_EDGE;
 use crate::matters::{first_pin, matter_of};
 use crate::told::{Said, Told};
+use mintc_annotate_delays::{PathInstance, instance_at, leaves_by_cell, path_of};
 use mintc_annotate_resolve::{
-    Instance, Instances, Lookup, Resolved, Target, at_leaf, index_places, is_same_path,
+    Instance, Instances, Lookup, Resolved, Target, at_leaf, index_places,
 };
 use mintc_cells::Cells;
 use mintc_flatten_hierarchy::Hierarchy;
-use mintc_sdf::{Place, Subject};
+use mintc_sdf::Subject;
 use mintc_sdf_edges::EdgeDelay;
 use mintc_text::{Name, OutOfMemory, Refusal, Role, Stop};
 use std::alloc::Global;
-
-/// A path, with the instance that it names.
-#[derive(Clone, Copy)]
-struct PathInstance<'a> {
-    path: &'a [Name],
-    instance: Instance,
-}
 
 /// Whether a target is of a path from an enable or a clock pin, whose first edge isn't read.
 fn begins_at_clock(hierarchy: &Hierarchy, cells: &Cells, target: Target) -> bool
@@ -243,35 +237,6 @@ fn apply_at_cell_type(
     }
 }
 
-/// The instance that a path names, which is often that of the delay before.
-fn instance_at<'a>(
-    lookup: &Lookup<'_>,
-    key: &mut Vec<u8>,
-    last: PathInstance<'a>,
-    path: &'a [Name],
-) -> Result<PathInstance<'a>, OutOfMemory>
-    requires lookup { IsLookup lookup.now }
-    requires last { IsAt lookup.now.hierarchy.now last.path.now last.instance }
-    ensures { IfOk result (λ s. (s.path.now ≡ path.now) × IsAt lookup.now.hierarchy.now path.now s.instance) }
-{
-    if is_same_path(last.path, path) {
-        return Ok(last);
-    }
-    let instance = lookup.instances.instance(key, path)?;
-    Ok(PathInstance { path, instance })
-}
-
-/// The path of the one instance of a place, where it isn't every instance.
-fn path_of(place: &Place) -> Option<&[Name]>
-    ensures { MatchOption result (path_of place.now ≡ None) (λ path. path_of place.now ≡ Some path.now) }
-{
-    match place {
-        Place::Every => None,
-        Place::Top => Some(&[]),
-        Place::Path(path) => Some(path.items()),
-    }
-}
-
 /// Takes in a delay, and gives the instance at which it was looked for, or else the last.
 fn apply_delay<'a>(
     lookup: &Lookup<'_>,
@@ -339,36 +304,6 @@ fn apply_all(
         last = apply_delay(lookup, groups, told, &mut key, last, delay)?;
     }
     Ok(())
-}
-
-/// Puts a leaf to those of its cell.
-fn group(groups: &mut Vec<Vec<u32>>, cell: usize, leaf: u32) -> Result<(), OutOfMemory>
-    requires { cell < length groups.old.items }
-    ensures { OnOk result (IsGroupedIn groups.old.items groups.new.items cell leaf) }
-{
-    groups[cell].push(leaf)?;
-    Ok(())
-}
-
-/// The leaves of each cell.
-fn leaves_by_cell(
-    alloc: Global,
-    hierarchy: &Hierarchy,
-    cells: &Cells,
-) -> Result<Vec<Vec<u32>>, OutOfMemory>
-    requires { IsFlattened cells.now hierarchy.now }
-    ensures { IfOk result (λ v. AreGrouped hierarchy.now (length cells.now) v.items) }
-{
-    let mut groups = Vec::new(alloc);
-    for cell in 0..cells.count() {
-        groups.push(Vec::new(alloc))?;
-    }
-    let leaves = hierarchy.leaves.items();
-    for number in 0..leaves.len() {
-        let leaf = &leaves[number];
-        group(&mut groups, leaf.cell as usize, number as u32)?;
-    }
-    Ok(groups)
 }
 
 /// All that delays say. The refusal is that of the first delay that annotates nothing that is there: NoInstance of the

@@ -1,14 +1,11 @@
 //! What a number of a delay is of, with the pins of latches and flops told apart.
-ghost use Rattle.std.specs.Prelude.{◌≡◌, ◌<◌, if◌then◌else◌, length, IfSome};
-ghost use Rattle.mintc_cells.specs.Rules.{pins};
-ghost use Rattle.mintc_cells.specs.Entries.{cell_at};
+ghost use Rattle.std.specs.Prelude.{◌≡◌, ◌<◌, if◌then◌else◌, length};
 ghost use Rattle.mintc_flatten_hierarchy.specs.Shape.{IsFlattened};
-ghost use Rattle.mintc_annotate_resolve.specs.Pins.{pin_number, output_pin};
 ghost use Rattle.mintc_annotate_resolve.specs.Targets.{IsThere, target_of};
 ghost use Rattle.mintc_annotate.specs.Made.{is_flop};
 ghost use Rattle.mintc_edges.specs.Matters.{path_from, matter_of};
 
-use mintc_annotate_resolve::Target;
+use mintc_annotate_resolve::{Target, output_pin};
 use mintc_cells::{Cell, Cells};
 use mintc_flatten_hierarchy::Hierarchy;
 use mintc_sdf::Subject;
@@ -32,35 +29,6 @@ pub(crate) fn first_pin(cell: &Cell) -> u32
     match cell {
         Cell::Flop { .. } => 1,
         Cell::Gate { .. } | Cell::Latch { .. } | Cell::Clock { .. } => 0,
-    }
-}
-
-/// The number of a pin of a cell.
-fn pin_number(cells: &Cells, cell: u32, name: &[u8]) -> Option<u32>
-    requires { cell < length cells.now }
-    ensures number { result ≡ pin_number (cell_at cells.now cell) name.now }
-    ensures within { IfSome result (λ i. i < length (pins (cell_at cells.now cell))) }
-{
-    for number in 0..cells.pin_count(cell) {
-        if name == cells.pin(cell, number).bytes() {
-            return Some(number);
-        }
-    }
-    None
-}
-
-/// The number of an output pin of a cell.
-fn output_pin(cells: &Cells, cell: u32, name: &[u8]) -> Option<u32>
-    requires { cell < length cells.now }
-    ensures { result ≡ output_pin (cell_at cells.now cell) name.now }
-{
-    let Some(number) = pin_number(cells, cell, name) else {
-        return None;
-    };
-    if cells.is_output(cell, number) {
-        Some(number)
-    } else {
-        None
     }
 }
 

@@ -1,7 +1,8 @@
 //! All that delays say, by transitions and edges.
 ghost use Rattle.std.specs.Prelude.{◌≡◌, ◌<◌, ℕ, cond, length, IfOk, OnOk};
 ghost use Rattle.mintc_edges.specs.Told.{AreUntold, IsUntold, IsWidenedAt, IsToldMore, HasRoom, HasPlace, IsSameRoom};
-ghost use Rattle.mintc_edges.specs.Told.{path_in, path_told, same_key, told_at};
+ghost use Rattle.mintc_annotate_delays.specs.Ranges.{same_key};
+ghost use Rattle.mintc_edges.specs.Told.{path_in, path_told, told_at};
 ghost use Rattle.mintc_edges.specs.Spreads.{widened_along};
 
 use crate::matters::Matter;

@@ -6,8 +6,8 @@
 //! of them. An expression is judged without its outer parentheses, and no more of it is kept than an input of the
 //! cell may be called.
 //!
-//! The crate above gets the cell of a group, and the groups that stand among statements, by which it finds a
-//! library's cells.
+//! mintc_liberty gets the cell of a group, and the groups that stand among statements, by which it finds a library's
+//! cells. mintc_senses reads the pins and timings of the same groups by their names and values.
 #![tactic(auto)]
 
 mod bytes;

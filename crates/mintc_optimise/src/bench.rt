@@ -35,13 +35,16 @@ impl Bench {
     ghost use Rattle.mintc_timing.specs.Design.{Timing};
     ghost use Rattle.mintc_timing.specs.Limits.{IsDesign};
     ghost use Rattle.mintc_timing.specs.Links.{links_of, node_count};
+    ghost use Rattle.mintc_timing.specs.Order.{IsTiming};
     ghost use Rattle.mintc_optimise.specs.Benches.{IsSolved};
     ghost use Rattle.mintc_optimise.specs.Bounded.{NeverOnlyWithBounds};
 
     /// A bench for a system's links.
     pub fn reserve(alloc: Global, system: &System) -> Result<Bench, OutOfMemory>
-        ensures { IfOk result (λ bench. bench.list
+        ensures list { IfOk result (λ bench. bench.list
             ≡ constraints_of (node_count system.now.flat) (links_of system.now)) }
+        ensures design { IsDesign system.now.flat }
+        ensures kept { IsTiming system.now.flat system.now.order system.now.pairs }
     {
         let list = links(alloc, system)?;
         let room = Room::reserve(alloc, list.nodes() as usize, list.items().len())?;

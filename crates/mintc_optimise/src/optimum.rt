@@ -3,7 +3,9 @@ ghost use Rattle.std.specs.Prelude.{◌≡◌, ◌≤◌, ◌+◌, ◌*◌, leng
 ghost use Rattle.mintc_ratio.specs.Climbing.{most_tests};
 ghost use Rattle.mintc_constraints.specs.Ordinary.{constraints_of};
 ghost use Rattle.mintc_timing.specs.Design.{element_count};
+ghost use Rattle.mintc_timing.specs.Limits.{IsDesign};
 ghost use Rattle.mintc_timing.specs.Links.{links_of, node_count};
+ghost use Rattle.mintc_timing.specs.Order.{IsTiming};
 ghost use Rattle.mintc_certificate.specs.Optimal.{IsOptimal};
 ghost use Rattle.mintc_certificate.specs.Ranges.{IsCertificateInRange};
 ghost use Rattle.mintc_certificate.specs.Valid.{IsValid, chain_of};
@@ -35,6 +37,8 @@ fn certificate(
 ) -> Result<Certificate, OutOfMemory>
     requires list { list.now ≡ constraints_of (node_count system.now.flat) (links_of system.now) }
     requires searched { HasSearched list.now room.now outcome }
+    requires design { IsDesign system.now.flat }
+    requires kept { IsTiming system.now.flat system.now.order system.now.pairs }
     ensures valid { IfOk result (IsValid system.now) }
     ensures optimal { IfOk result (IsOptimal system.now) }
     ensures earliest { IfOk result (HasEarliest system.now) }
@@ -44,7 +48,6 @@ fn certificate(
     ensures in_range { IfOk result IsCertificateInRange }
     ensures short { IfOk result (λ certificate. length (chain_of certificate) ≤ element_count system.now.flat + 17) }
 {
-    let _flat = system.flat();
     let numbers = room.chain();
     let first = beginning(alloc, list, numbers)?;
     let ring = members(alloc, system, list.items(), numbers)?;

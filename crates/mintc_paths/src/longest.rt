@@ -1,7 +1,7 @@
 //! A bound above the sums of all paths at once, by which most designs are seen to have no path that is too long.
 ghost use Rattle.std.specs.Prelude.{◌≡◌, ◌≢◌, ◌<◌, ◌+◌, ◌*◌, ℕ, ℤ, pos, ◌+ℤ◌, ◌≤ℤ◌, IfOk, All, length};
 ghost use Rattle.std.specs.Bool.{OnTrue};
-ghost use Rattle.mintc_timing.specs.Limits.{IsDelay};
+ghost use Rattle.mintc_timing.specs.Limits.{IsDelay, IsDesign};
 ghost use Rattle.mintc_timing.specs.Order.{IsOrder, ArePathsShort};
 ghost use Rattle.mintc_paths.specs.Longest.{bit_sum, bit_sums, AreCarried, AreRunsShort};
 ghost use Rattle.mintc_paths.specs.Sums.{IsSequence};
@@ -34,6 +34,7 @@ fn raise(sums: &mut [i64], arc: TimingArc)
 /// Makes the sums, which are 0 in each row, the greatest along arcs that end there, wherever they begin, in
 /// femtoseconds.
 fn raise_all(sums: &mut [i64], flat: &Flat, order: &Order, sequence: &ArcSequence)
+    requires design { IsDesign flat.now }
     requires order { IsOrder flat.now.arcs order.now }
     requires bits { length sums.old ≡ 2 * length flat.now.elements + length flat.now.inner }
     requires sequence { IsSequence (length sums.old) flat.now.arcs order.now sequence.now }
@@ -41,7 +42,6 @@ fn raise_all(sums: &mut [i64], flat: &Flat, order: &Order, sequence: &ArcSequenc
     ensures { AreCarried flat.now.arcs order.now (length order.now)
         (bit_sums sequence.now.rows.of_bits.items sums.new) }
 {
-    let _elements = flat.elements();
     for place in 0..sequence.along.len() {
         raise(sums, sequence.along[place]);
     }
@@ -67,7 +67,7 @@ pub(crate) fn runs_are_within_limit(
         sequence.now }
     ensures { IfOk result (λ short. OnTrue short (AreRunsShort flat.now.arcs)) }
 {
-    let mut sums = vec![in alloc; 0; sequence.rows.of_bits.len()]?;
+    let mut sums = vec![in alloc; 0; flat.bit_count()]?;
     raise_all(&mut sums, flat, order, sequence);
     Ok(are_within(&sums))
 }

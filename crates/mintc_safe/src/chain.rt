@@ -69,10 +69,11 @@ fn safe_member_of(
     finder: &mut Finder,
     link: &Link,
 ) -> Result<SafeMember, OutOfMemory>
-    requires { Contains (safe_links_of system.now) link.now }
+    requires link { Contains (safe_links_of system.now) link.now }
+    requires design { IsDesign system.now.flat }
+    requires kept { IsTiming system.now.flat system.now.order system.now.pairs }
     ensures { IfOk result (StandsFor system.now link.now) }
 {
-    let _flat = system.flat();
     match held_pair(link) {
         Some(number) => hold_of(alloc, system, finder, number),
         None => plain_of(alloc, system, finder, link),
@@ -88,6 +89,8 @@ pub(crate) fn members(
 ) -> Result<SafeMemberList, OutOfMemory>
     requires links { links.now ≡ safe_links_of system.now }
     requires chain { All (λ e. e < length links.now) chain.now }
+    requires design { IsDesign system.now.flat }
+    requires kept { IsTiming system.now.flat system.now.order system.now.pairs }
     ensures { IfOk result (StandForAll system.now links.now chain.now) }
 {
     let mut finder = Finder::new(alloc, system)?;

@@ -5,28 +5,17 @@ use Rattle.std.proofs.lemmas.Slice.Eq.{bytes_eq-Decides}
 use Rattle.mintc_sdf_tokens.specs.declared.conditions.Layer.{Layer}
 use Rattle.mintc_sdf_tokens.specs.declared.conditions.Layer.TheVariants as layer
 use Rattle.mintc_sdf_tokens.specs.Tokens.{Token}
-use Rattle.mintc_sdf_tokens.specs.Items.{Items, leaf, is_none, count, items, fronts}
+use Rattle.mintc_sdf_tokens.specs.Items.{Items, leaf, is_none, count, items}
 use Rattle.mintc_sdf_tokens.specs.Words.{is_key, is_edge}
-use Rattle.mintc_sdf.specs.Forms.{Claim, with_items, list_at, inner_def, last_def, lone_def, inner_port, last_port, port_at}
-use Rattle.mintc_sdf_tokens.specs.Reading.{word_at, inside, with_rest}
+use Rattle.mintc_sdf.specs.Forms.{Claim, list_at, inner_def, last_def, lone_def, inner_port, last_port, port_at}
+use Rattle.mintc_sdf_tokens.specs.Reading.{inside}
 use Rattle.mintc_sdf_tokens.specs.Conditions.{kind_of, condition_at, walked}
-use Rattle.mintc_sdf_tokens.proofs.SharedInsideLaws.{inside-same, word-next}
-use Rattle.mintc_sdf_tokens.proofs.SharedConditionLaws.{more_by, more-any, more-over, limited, Form, layer-word, Plain, found-none, found-inside}
-use Rattle.mintc_sdf.proofs.ShownLaws.{shown}
+use Rattle.mintc_sdf_tokens.proofs.SharedConditionLaws.{more_by, more-any, more-over, limited, Form, Plain}
+use Rattle.mintc_sdf.proofs.SharedFoundLaws.{first_of, first-with, shown, found, not-found}
 
 -- distinct keywords
 keys-differ : (a b w : List ℕ) → is_key a w ≡ true → is_key b w ≡ bytes_eq (str_to_ascii_lowercase a) (str_to_ascii_lowercase b)
 keys-differ a b w e = ap (λ l. bytes_eq l (str_to_ascii_lowercase b)) ((bytes_eq-Decides (str_to_ascii_lowercase w) (str_to_ascii_lowercase a)).0 e)
-
--- what an item gives, and what is left behind it
-abbrev pub first_of : {A : Type 0} → A × Items → A
-first_of p = p.0
-
-first-with : {A : Type 0} (is : Items) (o : Option A) → option_map first_of (option_map (with_items is) o) ≡ o
-first-with is o = grind arith
-
-pub shown-first : {A : Type 0} (rest : List Token) (o : Option (A × Items)) → option_map (with_rest rest) (option_map first_of o) ≡ shown rest o
-shown-first rest o = grind arith
 
 -- Definitions
 
@@ -66,22 +55,13 @@ def-form d = record {
     leaf-is : (is : Items) → last_def d is ≡ (if is_none is then None else last_def d is)
     leaf-is is = grind arith
 
--- a definition that is a condition, from its keyword on
-def-word : (d : ℕ) (ts next : List Token) (l : Layer) → condition_at true ts ≡ Some (l, next) → inside (inner_def d) ts ≡ inside (λ is. limited (more_by (count is) l) (last_def d is)) next
-unfolding fronts
-def-word d ts next l e =
-    let w = layer-word true ts next l e in
-    ap (inside (inner_def d)) w.1 ∙ inside-same (λ is. inner_def d (leaf w.0 is)) (λ is. limited (more_by (count is) l) (last_def d is)) next (def-kind d w.0 l w.2)
-
+-- a definition that is a condition
 pub def-found : (d : ℕ) (ts next start rest : List Token) (l : Layer) → condition_at true ts ≡ Some (l, next) → walked true (l ∷ []) None 0 next ≡ Some (start, rest) →
     (inside (inner_def d) ts ≡ shown rest (list_at (inner_def d) (items start))) × Plain true start
-def-found d ts next start rest l e f =
-    let g = found-inside true (last_def d) (def_at d) (λ is. limited (more_by (count is) l) (last_def d is)) (def-form d) l next start rest (λ is. refl) f in
-    (def-word d ts next l e ∙ g.0 ∙ shown-first rest (list_at (inner_def d) (items start)), g.1)
+def-found d = found true (inner_def d) (last_def d) (list_at (inner_def d)) (def-kind d) (def-form d)
 
 pub def-found_none : (d : ℕ) (ts next : List Token) (l : Layer) → condition_at true ts ≡ Some (l, next) → walked true (l ∷ []) None 0 next ≡ None → inside (inner_def d) ts ≡ None
-def-found_none d ts next l e f =
-    def-word d ts next l e ∙ found-none true (last_def d) (def_at d) (λ is. limited (more_by (count is) l) (last_def d is)) (def-form d) l next (λ is. refl) f
+def-found_none d = not-found true (inner_def d) (last_def d) (list_at (inner_def d)) (def-kind d) (def-form d)
 
 -- Ports
 
@@ -126,32 +106,9 @@ port-form = record {
   kind-is = λ k js is l e. first-with is (inner_port (leaf k js)) ∙ port-kind k l e js;
 }
 
-port-word : (ts next : List Token) (l : Layer) → condition_at false ts ≡ Some (l, next) → inside inner_port ts ≡ inside (λ is. limited (more_by (count is) l) (last_port is)) next
-unfolding fronts
-port-word ts next l e =
-    let w = layer-word false ts next l e in
-    ap (inside inner_port) w.1 ∙ inside-same (λ is. inner_port (leaf w.0 is)) (λ is. limited (more_by (count is) l) (last_port is)) next (port-kind w.0 l w.2)
-
 pub port-found : (ts next start rest : List Token) (l : Layer) → condition_at false ts ≡ Some (l, next) → walked false (l ∷ []) None 0 next ≡ Some (start, rest) →
     (inside inner_port ts ≡ shown rest (port_at (items start))) × Plain false start
-port-found ts next start rest l e f =
-    let g = found-inside false last_port item_at (λ is. limited (more_by (count is) l) (last_port is)) port-form l next start rest (λ is. refl) f in
-    (port-word ts next l e ∙ g.0 ∙ shown-first rest (port_at (items start)), g.1)
+port-found = found false inner_port last_port port_at port-kind port-form
 
 pub port-found_none : (ts next : List Token) (l : Layer) → condition_at false ts ≡ Some (l, next) → walked false (l ∷ []) None 0 next ≡ None → inside inner_port ts ≡ None
-port-found_none ts next l e f =
-    port-word ts next l e ∙ found-none false last_port item_at (λ is. limited (more_by (count is) l) (last_port is)) port-form l next (λ is. refl) f
-
--- a word that opens no condition
-pub plain-word : (both : Bool) (ts next : List Token) (k : List ℕ) → word_at ts ≡ Some (k, next) → condition_at both ts ≡ None → kind_of both k ≡ None
-plain-word both ts next k e f = by (kind_of both k) (sym (ap (condition_at both) (word-next ts k next e)) ∙ f)
-  where
-    by : (o : Option Layer) → option_map (with_rest next) o ≡ None → o ≡ None
-    by None g = refl
-    by (Some m) g = absurd (cc)
-
-pub plain-def : (k : List ℕ) → kind_of true k ≡ None → (is_key (codes "COND") k ≡ false) × (is_key (codes "CONDELSE") k ≡ false)
-plain-def k e = grind (arith, e)
-
-pub plain-port : (k : List ℕ) → kind_of false k ≡ None → is_key (codes "COND") k ≡ false
-plain-port k e = grind (arith, e)
+port-found_none = not-found false inner_port last_port port_at port-kind port-form

@@ -1,17 +1,14 @@
--- What an item gives, shown where its list was read.
+-- The claim of a definition, shown where a condition ends.
 use Rattle.std.proofs.Common.{◌≡◌, ℕ, Option, Some, None, List, ap, ◌∙◌}
 use Rattle.mintc_sdf.specs.declared.delays.Subject.{Subject}
 use Rattle.mintc_sdf.specs.declared.numbers.Sum.{Sum}
 use Rattle.mintc_sdf_tokens.specs.Tokens.{Token}
-use Rattle.mintc_sdf_tokens.specs.Items.{Items, items}
+use Rattle.mintc_sdf_tokens.specs.Items.{items}
 use Rattle.mintc_sdf.specs.Forms.{Claim, claim, list_at, inner_def}
 use Rattle.mintc_sdf_tokens.specs.Reading.{after_opening, inside}
 use Rattle.mintc_sdf.specs.Keeping.{IsClaim}
 use Rattle.mintc_sdf.proofs.SharedListLaws.{at-bad, at-some}
-
-abbrev pub shown : {A : Type 0} → List Token → Option (A × Items) → Option (A × List Token)
-shown rest None = None
-shown rest (Some p) = Some (p.0, rest)
+use Rattle.mintc_sdf.proofs.SharedFoundLaws.{shown}
 
 -- the claim of a definition at an item, shown where a condition ends
 pub claim-shown : (scale d : ℕ) (s : Subject) (sum : Sum) (o : Option (Claim × List Token)) (ts next end rest : List Token) → o ≡ shown rest (list_at (inner_def d) (items ts)) → after_opening ts ≡ Some next →

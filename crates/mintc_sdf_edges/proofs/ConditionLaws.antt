@@ -3,32 +3,17 @@ use Rattle.std.proofs.Common.{◌≡◌, ℕ, Bool, true, false, if◌then◌els
 use Rattle.mintc_sdf_tokens.specs.declared.conditions.Layer.{Layer}
 use Rattle.mintc_sdf_tokens.specs.declared.conditions.Layer.TheVariants as layer
 use Rattle.mintc_sdf_tokens.specs.Tokens.{Token}
-use Rattle.mintc_sdf_tokens.specs.Items.{Items, leaf, is_none, count, items, fronts}
+use Rattle.mintc_sdf_tokens.specs.Items.{Items, leaf, is_none, count, items}
 use Rattle.mintc_sdf_tokens.specs.Words.{is_key}
-use Rattle.mintc_sdf_tokens.specs.Reading.{after_opening, word_at, inside, with_rest}
+use Rattle.mintc_sdf_tokens.specs.Reading.{after_opening, inside}
 use Rattle.mintc_sdf_tokens.specs.Conditions.{kind_of, condition_at, walked}
-use Rattle.mintc_sdf_tokens.proofs.SharedInsideLaws.{inside-same, word-next}
-use Rattle.mintc_sdf_tokens.proofs.SharedConditionLaws.{more_by, more-any, more-over, limited, Form, layer-word, Plain, found-none, found-inside}
-use Rattle.mintc_sdf.specs.Forms.{with_items, list_at}
+use Rattle.mintc_sdf_tokens.proofs.SharedConditionLaws.{more_by, more-any, more-over, limited, Form, Plain, found-inside}
+use Rattle.mintc_sdf.specs.Forms.{list_at}
 use Rattle.mintc_sdf_edges.specs.declared.delays.Edges.{Edges}
 use Rattle.mintc_sdf_edges.specs.Edges.{inner_edge, last_edge, edge_at}
 use Rattle.mintc_sdf_edges.specs.Telling.{Progress, item, last_item, lone_item}
+use Rattle.mintc_sdf.proofs.SharedFoundLaws.{first_of, first-with, shown, found, not-found}
 use Rattle.mintc_sdf.proofs.SharedListLaws.{at-bad, at-some}
-
--- what an item gives, and what is left behind it
-abbrev pub first_of : {A : Type 0} → A × Items → A
-first_of p = p.0
-
-first-with : {A : Type 0} (is : Items) (o : Option A) → option_map first_of (option_map (with_items is) o) ≡ o
-first-with is o = grind arith
-
--- what an item gives, shown where its list was read
-abbrev pub shown : {A : Type 0} → List Token → Option (A × Items) → Option (A × List Token)
-shown rest None = None
-shown rest (Some p) = Some (p.0, rest)
-
-pub shown-first : {A : Type 0} (rest : List Token) (o : Option (A × Items)) → option_map (with_rest rest) (option_map first_of o) ≡ shown rest o
-shown-first rest o = grind arith
 
 -- Definitions and checks
 
@@ -66,25 +51,16 @@ def-form p = record {
     leaf-is : (is : Items) → last_item p is ≡ (if is_none is then None else last_item p is)
     leaf-is is = grind arith
 
--- a definition that is a condition, from its keyword on
-def-word : (p : Progress) (ts next : List Token) (l : Layer) → condition_at true ts ≡ Some (l, next) → inside (item p) ts ≡ inside (λ is. limited (more_by (count is) l) (last_item p is)) next
-unfolding fronts
-def-word p ts next l e =
-    let w = layer-word true ts next l e in
-    ap (inside (item p)) w.1 ∙ inside-same (λ is. item p (leaf w.0 is)) (λ is. limited (more_by (count is) l) (last_item p is)) next (def-kind p w.0 l w.2)
-
+-- an item that is a condition
 pub def-found : (p : Progress) (ts next start rest : List Token) (l : Layer) → condition_at true ts ≡ Some (l, next) → walked true (l ∷ []) None 0 next ≡ Some (start, rest) →
     (inside (item p) ts ≡ shown rest (list_at (item p) (items start))) × Plain true start
-def-found p ts next start rest l e f =
-    let g = found-inside true (last_item p) (def_at p) (λ is. limited (more_by (count is) l) (last_item p is)) (def-form p) l next start rest (λ is. refl) f in
-    (def-word p ts next l e ∙ g.0 ∙ shown-first rest (list_at (item p) (items start)), g.1)
+def-found p = found true (item p) (last_item p) (list_at (item p)) (def-kind p) (def-form p)
 
 pub plain-there : (p : Progress) (next start rest : List Token) (l : Layer) → walked true (l ∷ []) None 0 next ≡ Some (start, rest) → Plain true start
 plain-there p next start rest l f = (found-inside true (last_item p) (def_at p) (λ is. limited (more_by (count is) l) (last_item p is)) (def-form p) l next start rest (λ is. refl) f).1
 
 pub def-found_none : (p : Progress) (ts next : List Token) (l : Layer) → condition_at true ts ≡ Some (l, next) → walked true (l ∷ []) None 0 next ≡ None → inside (item p) ts ≡ None
-def-found_none p ts next l e f =
-    def-word p ts next l e ∙ found-none true (last_item p) (def_at p) (λ is. limited (more_by (count is) l) (last_item p is)) (def-form p) l next (λ is. refl) f
+def-found_none p = not-found true (item p) (last_item p) (list_at (item p)) (def-kind p) (def-form p)
 
 -- Ports
 
@@ -109,35 +85,12 @@ port-form = record {
   kind-is = λ k js is l e. first-with is (inner_edge (leaf k js)) ∙ port-kind k l e js;
 }
 
-port-word : (ts next : List Token) (l : Layer) → condition_at false ts ≡ Some (l, next) → inside inner_edge ts ≡ inside (λ is. limited (more_by (count is) l) (last_edge is)) next
-unfolding fronts
-port-word ts next l e =
-    let w = layer-word false ts next l e in
-    ap (inside inner_edge) w.1 ∙ inside-same (λ is. inner_edge (leaf w.0 is)) (λ is. limited (more_by (count is) l) (last_edge is)) next (port-kind w.0 l w.2)
-
 pub port-found : (ts next start rest : List Token) (l : Layer) → condition_at false ts ≡ Some (l, next) → walked false (l ∷ []) None 0 next ≡ Some (start, rest) →
     (inside inner_edge ts ≡ shown rest (edge_at (items start))) × Plain false start
-port-found ts next start rest l e f =
-    let g = found-inside false last_edge port_item (λ is. limited (more_by (count is) l) (last_edge is)) port-form l next start rest (λ is. refl) f in
-    (port-word ts next l e ∙ g.0 ∙ shown-first rest (edge_at (items start)), g.1)
+port-found = found false inner_edge last_edge edge_at port-kind port-form
 
 pub port-found_none : (ts next : List Token) (l : Layer) → condition_at false ts ≡ Some (l, next) → walked false (l ∷ []) None 0 next ≡ None → inside inner_edge ts ≡ None
-port-found_none ts next l e f =
-    port-word ts next l e ∙ found-none false last_edge port_item (λ is. limited (more_by (count is) l) (last_edge is)) port-form l next (λ is. refl) f
-
--- a word that opens no condition
-pub plain-word : (both : Bool) (ts next : List Token) (k : List ℕ) → word_at ts ≡ Some (k, next) → condition_at both ts ≡ None → kind_of both k ≡ None
-plain-word both ts next k e f = by (kind_of both k) (sym (ap (condition_at both) (word-next ts k next e)) ∙ f)
-  where
-    by : (o : Option Layer) → option_map (with_rest next) o ≡ None → o ≡ None
-    by None g = refl
-    by (Some m) g = absurd (cc)
-
-pub plain-def : (k : List ℕ) → kind_of true k ≡ None → (is_key (codes "COND") k ≡ false) × (is_key (codes "CONDELSE") k ≡ false)
-plain-def k e = grind (arith, e)
-
-pub plain-port : (k : List ℕ) → kind_of false k ≡ None → is_key (codes "COND") k ≡ false
-plain-port k e = grind (arith, e)
+port-found_none = not-found false inner_edge last_edge edge_at port-kind port-form
 
 -- what an item tells, shown where a condition ends
 pub item-shown : (p q : Progress) (o : Option (Progress × List Token)) (ts next end rest : List Token) → o ≡ shown rest (list_at (item p) (items ts)) → after_opening ts ≡ Some next →

@@ -1,14 +1,14 @@
 -- Spans of parts, of words and of values, one after the other.
-use Rattle.std.proofs.Common.{◌≡◌, ℕ, suc, ◌+◌, ◌<◌, Bool, true, false, ◌==◌, not, if◌then◌else◌, List, [], ◌∷◌, ◌++◌, length, take, drop, Option, Some, None, option_map, refl, sym, ap, ◌∙◌, arith, append_assoc, append-nil, ℤ}
+use Rattle.std.proofs.Common.{◌≡◌, ℕ, ◌+◌, ◌<◌, List, [], ◌∷◌, ◌++◌, length, take, drop, Option, Some, None, option_map, refl, sym, ap, ◌∙◌, arith, append_assoc, append-nil, ℤ}
 use Rattle.std.specs.Int.{int_min, int_max}
 use Rattle.std.proofs.lemmas.Int.{ints}
 use Rattle.mintc_sdf_tokens.specs.Tokens.{Token, closing}
 use Rattle.mintc_sdf_tokens.specs.Items.{Items, leaf, items, after}
-use Rattle.mintc_sdf_tokens.specs.Words.{before_first}
 use Rattle.mintc_sdf_tokens.specs.Reading.{after_closing, after_opening, word_at, inside, inside_by, with_rest}
 use Rattle.mintc_sdf_tokens.proofs.SharedInsideLaws.{opening-next, needs-list-or-end, needs-word-or-end, list-none, list-some, inside-shorter, inside-word, inside-end, inside-none}
 use Rattle.mintc_sdf.specs.Forms.{parts_of, joined, one}
 use Rattle.mintc_sdf.specs.Values.{colon_size}
+use Rattle.mintc_sdf.proofs.SharedPartLaws.{one-part, next-part}
 use Rattle.mintc_sdf_edges.specs.Spans.{Span, wider, wider_of, part_span, parts_span, value_span, value_spans}
 
 -- The wider of spans
@@ -45,20 +45,6 @@ nothing-wider_of (Some a) = refl
 
 -- Parts
 
-cut-part : (bs : List ℕ) → colon_size bs < length bs → parts_of bs ≡ take (colon_size bs) bs ∷ parts_of (drop (suc (colon_size bs)) bs)
-cut-part [] h = absurd (omega arith)
-cut-part (b ∷ bs) h = by (b == 58) (cut-part bs) h
-  where
-    by : (v : Bool) → (colon_size bs < length bs → parts_of bs ≡ take (colon_size bs) bs ∷ parts_of (drop (suc (colon_size bs)) bs)) → (if not v then 1 + colon_size bs else 0) < suc (length bs) →
-        (if v then [] ∷ parts_of bs else before_first b (parts_of bs))
-        ≡ take (if not v then 1 + colon_size bs else 0) (b ∷ bs) ∷ parts_of (drop (suc (if not v then 1 + colon_size bs else 0)) (b ∷ bs))
-    by true go h = refl
-    by false go h = let next : suc (colon_size bs) ≡ 1 + colon_size bs = omega arith in ap (before_first b) (go (omega (arith, h))) ∙ ap (λ k. take k (b ∷ bs) ∷ parts_of (drop k bs)) next
-
-last-part : (bs : List ℕ) → colon_size bs ≡ length bs → parts_of bs ≡ bs ∷ []
-last-part [] h = refl
-last-part (b ∷ bs) h = let go = last-part bs in grind (arith, go, h)
-
 take-all : (bs : List ℕ) → take (length bs) bs ≡ bs
 take-all [] = refl
 take-all (b ∷ bs) = ap (λ l. b ∷ l) (take-all bs)
@@ -70,16 +56,13 @@ word-end scale whole span bs n e h l =
     ap (λ k. wider_of span (part_span scale (take k bs))) l
     ∙ ap (λ p. wider_of span (part_span scale p)) (take-all bs)
     ∙ ap (wider_of span) (sym (wider_of-nothing (part_span scale bs)))
-    ∙ sym (e ∙ ap (λ ps. wider_of span (parts_span scale ps)) (last-part bs (sym h ∙ l)))
+    ∙ sym (e ∙ ap (λ ps. wider_of span (parts_span scale ps)) (one-part bs n h l))
 
 -- and one before
 pub word-turn : (scale : ℕ) (whole span : Option Span) (bs rest : List ℕ) (n : ℕ) → whole ≡ wider_of span (parts_span scale (parts_of bs)) → n ≡ colon_size bs → n < length bs → rest ≡ drop (n + 1) bs →
     whole ≡ wider_of (wider_of span (part_span scale (take n bs))) (parts_span scale (parts_of rest))
 word-turn scale whole span bs rest n e h l left =
-    let place : suc (colon_size bs) ≡ n + 1 = omega (arith, h) in
-    let cut : parts_of bs ≡ take n bs ∷ parts_of rest =
-    cut-part bs (omega (arith, h, l)) ∙ ap (λ k. take k bs ∷ parts_of (drop (suc (colon_size bs)) bs)) (sym h) ∙ ap (λ k. take n bs ∷ parts_of (drop k bs)) place ∙ ap (λ l. take n bs ∷ parts_of l) (sym left) in
-    e ∙ ap (λ ps. wider_of span (parts_span scale ps)) cut ∙ sym (wider_of-assoc span (part_span scale (take n bs)) (parts_span scale (parts_of rest)))
+    e ∙ ap (λ ps. wider_of span (parts_span scale ps)) (next-part bs rest n h l left) ∙ sym (wider_of-assoc span (part_span scale (take n bs)) (parts_span scale (parts_of rest)))
 
 pub word-start : (scale : ℕ) (bs : List ℕ) → parts_span scale (parts_of bs) ≡ wider_of (Some None) (parts_span scale (parts_of bs))
 word-start scale bs = sym (nothing-wider_of (parts_span scale (parts_of bs)))

@@ -1,9 +1,7 @@
--- Where a reader of lines stands in a text, and where it halts.
+-- Where a reader of lines stands in a text.
 use Rattle.std.specs.Prelude.{◌≡◌, ◌≤◌, ◌+◌, ℕ, List, ◌++◌, length, min}
 use Rattle.mintc_text.specs.declared.limits.TheConstants.{MOST_BYTES}
 use Rattle.mintc_text.specs.Lines.{ended, text_of, Follows, IsStuck}
-use Rattle.mintc_text.specs.declared.read_error.ReadError.{ReadError}
-use Rattle.mintc_text.specs.declared.read_error.ReadError.TheVariants.{Malformed, OutOfMemory}
 use Rattle.mintc_timing_text.specs.Fields.{Spells}
 
 -- What a reader has yet to read of a text, and the number of the line that it asked for last, 0 at first.
@@ -24,11 +22,6 @@ pub record HasRead {V : Type 0} (F : V → List (List ℕ) → Type 0) (old : Li
 -- No line comes next that spells a value.
 abbrev pub HasNone : {V : Type 0} → (V → List (List ℕ) → Type 0) → List ℕ → Type 0
 HasNone {V} F left = (v : V) (line more : List ℕ) → left ≡ ended line ++ more → Spells F v line → ⊥
-
--- Where reading stops at a line's form, this is said. A want of memory says nothing.
-abbrev pub Halts : Type 0 → ReadError → Type 0
-Halts fault Malformed = fault
-Halts fault OutOfMemory = Unit {0}
 
 -- The lines that were read lead from one state to another. They are counted as far as 32 bits go.
 pub record HasPassed {S : Type 0} (next : S → List ℕ → S → Type 0) (a : S) (old new : Reading) (b : S) : Type 0 where

@@ -8,6 +8,9 @@ use mintc_text::limits::MOST_DELAY;
 use mintc_text::{leading_digits, numeral, place_of};
 use std::marker::Model;
 
+/// Bytes of a name, which has one at least.
+const MOST_NAME: usize = 1_000;
+
 /// The words of a line that are not yet read, seen as their list. One space stands between two words.
 #[derive(Drop)]
 pub struct Fields<'a> {
@@ -58,7 +61,7 @@ fn begins_with(rest: &[u8], word: &[u8]) -> bool
 pub fn is_name(word: &[u8]) -> bool
     ensures { MatchBool result (IsName word.now) (IsName word.now → ⊥) }
 {
-    if word.is_empty() || word.len() > 1_000 {
+    if word.is_empty() || word.len() > MOST_NAME {
         return false;
     }
     for byte in word {

@@ -2,6 +2,7 @@
 ghost use Rattle.std.specs.Prelude.{◌≡◌, ◌≤◌, ◌<◌, ◌∷◌, ◌++◌, [], ℕ, List, OnOk, MatchOption, MatchResult, IfOk, IfErr};
 ghost use Rattle.std.specs.Prelude.{Some, length, take, codes, decimal};
 ghost use Rattle.mintc_text.specs.declared.limits.TheConstants.{MOST_BYTES};
+ghost use Rattle.mintc_text.specs.ReadErrors.{Halts};
 ghost use Rattle.mintc_text.specs.Stops.{StopsAt};
 ghost use Rattle.mintc_timing.specs.declared.parts.Bound.{Bound};
 ghost use Rattle.mintc_timing.specs.declared.parts.Element.{Element};
@@ -11,7 +12,7 @@ ghost use Rattle.mintc_timing.specs.Design.{Design, design_of};
 ghost use Rattle.mintc_timing_text.specs.ElementWords.{named};
 ghost use Rattle.mintc_timing_text.specs.Fields.{IsCount};
 ghost use Rattle.mintc_timing.specs.Limits.{HasParts, IsWithinLimits, limit_of};
-ghost use Rattle.mintc_timing_text.specs.Reading.{HasNone, HasRead, Halts, IsAt, number_after};
+ghost use Rattle.mintc_timing_text.specs.Reading.{HasNone, HasRead, IsAt, number_after};
 ghost use Rattle.mintc_timing_text.specs.TableReading.{AreKept, ArePartsOf};
 ghost use Rattle.mintc_timing_text.specs.TableText.{NextOfTable, IsElementLine, IsArcLine, IsBoundLine, IsTableText};
 ghost use Rattle.mintc_timing_text.specs.TableText.{IsTableFault, IsTableRefusal, inner_names, first, phase, element};

@@ -196,6 +196,45 @@ fn certified_status(verdict: Verdict, certificate: &Certificate) -> Status
     }
 }
 
+/// The text of a verdict, or the schedule of its certificate.
+fn judged_answer(
+    alloc: Global,
+    aspect: Aspect,
+    judged: &Judged<'_>,
+    view: &View,
+) -> Result<Answer, OutOfMemory>
+    requires in_range { IsCertificateInRange judged.now.certificate.now }
+    requires verdict { IsVerdict judged.now.system.now judged.now.certificate.now judged.now.verdict }
+    ensures { IfOk result (λ answer. IsVerifyAnswer judged.now.system.now aspect judged.now.certificate.now
+        judged.now.design.now view.now answer.status answer.text) }
+{
+    match aspect {
+        Aspect::Schedule(_) => {
+            let text = schedule_or_verdict(alloc, judged, view)?;
+            Ok(Answer {
+                status: certified_status(judged.verdict, judged.certificate),
+                text,
+            })
+        }
+        Aspect::Whole
+        | Aspect::Cycle(_)
+        | Aspect::Histogram
+        | Aspect::Rows
+        | Aspect::CycleRows(_)
+        | Aspect::Object
+        | Aspect::CycleObject(_)
+        | Aspect::Clocks
+        | Aspect::Picture
+        | Aspect::Table => {
+            let text = text_of_verdict(alloc, aspect, judged, view)?;
+            Ok(Answer {
+                status: verdict_status(judged.verdict),
+                text,
+            })
+        }
+    }
+}
+
 /// The text of the verdict on a certificate, or its schedule.
 fn examined_answer(
     alloc: Global,
@@ -216,31 +255,7 @@ fn examined_answer(
         verdict,
         design,
     };
-    match aspect {
-        Aspect::Schedule(_) => {
-            let text = schedule_or_verdict(alloc, &judged, view)?;
-            Ok(Answer {
-                status: certified_status(verdict, certificate),
-                text,
-            })
-        }
-        Aspect::Whole
-        | Aspect::Cycle(_)
-        | Aspect::Histogram
-        | Aspect::Rows
-        | Aspect::CycleRows(_)
-        | Aspect::Object
-        | Aspect::CycleObject(_)
-        | Aspect::Clocks
-        | Aspect::Picture
-        | Aspect::Table => {
-            let text = text_of_verdict(alloc, aspect, &judged, view)?;
-            Ok(Answer {
-                status: verdict_status(verdict),
-                text,
-            })
-        }
-    }
+    judged_answer(alloc, aspect, &judged, view)
 }
 
 /// What the design is called beside a certificate.

@@ -1,10 +1,11 @@
 -- The words of values: their parts, and what these become.
-use Rattle.std.proofs.Common.{◌≡◌, ℕ, suc, ◌+◌, ◌<◌, Bool, true, false, not, ◌&&◌, ◌==◌, if◌then◌else◌, List, [], ◌∷◌, ◌++◌, map, length, take, drop, codes, refl, sym, ap, ◌∙◌, arith, append_assoc, append-nil}
+use Rattle.std.proofs.Common.{◌≡◌, ℕ, ◌+◌, ◌<◌, Bool, true, false, not, ◌&&◌, ◌==◌, if◌then◌else◌, List, [], ◌∷◌, ◌++◌, map, length, take, drop, codes, refl, sym, ap, ◌∙◌, arith, append_assoc, append-nil}
 use Rattle.std.proofs.lemmas.List.{take_all}
 use Rattle.mintc_decimal.specs.Decimals.{number_of}
 use Rattle.mintc_sdf_tokens.specs.Words.{before_first}
 use Rattle.mintc_sdf.specs.Forms.{parts_of}
 use Rattle.mintc_sdf.specs.Values.{colon_size}
+use Rattle.mintc_sdf.proofs.SharedPartLaws.{one-part, next-part, some-parts}
 use Rattle.mintcx_clamp.specs.Words.{is_below, clamped_part, with_colons, between_colons, clamped_word}
 
 -- no byte is a colon
@@ -16,41 +17,15 @@ abbrev pub are_free : List (List ℕ) → Bool
 are_free [] = true
 are_free (p ∷ ps) = is_free p && are_free ps
 
--- a part before a colon, and the last one
-cut-part : (bs : List ℕ) → colon_size bs < length bs → parts_of bs ≡ take (colon_size bs) bs ∷ parts_of (drop (suc (colon_size bs)) bs)
-cut-part [] h = absurd (omega arith)
-cut-part (b ∷ bs) h = by (b == 58) (cut-part bs) h
-  where
-    by : (v : Bool) → (colon_size bs < length bs → parts_of bs ≡ take (colon_size bs) bs ∷ parts_of (drop (suc (colon_size bs)) bs)) → (if not v then 1 + colon_size bs else 0) < suc (length bs) →
-        (if v then [] ∷ parts_of bs else before_first b (parts_of bs))
-        ≡ take (if not v then 1 + colon_size bs else 0) (b ∷ bs) ∷ parts_of (drop (suc (if not v then 1 + colon_size bs else 0)) (b ∷ bs))
-    by true go h = refl
-    by false go h = let next : suc (colon_size bs) ≡ 1 + colon_size bs = omega arith in ap (before_first b) (go (omega (arith, h))) ∙ ap (λ k. take k (b ∷ bs) ∷ parts_of (drop k bs)) next
-
-last-part : (bs : List ℕ) → colon_size bs ≡ length bs → parts_of bs ≡ bs ∷ []
-last-part [] h = refl
-last-part (b ∷ bs) h = let go = last-part bs in grind (arith, go, h)
-
--- each word has a part
-some-parts : (bs : List ℕ) → (p : List ℕ) × (ps : List (List ℕ)) × (parts_of bs ≡ p ∷ ps)
-some-parts [] = ([], [], refl)
-some-parts (b ∷ bs) = by (b == 58) (some-parts bs)
-  where
-    by : (v : Bool) → ((p : List ℕ) × (ps : List (List ℕ)) × (parts_of bs ≡ p ∷ ps)) →
-        (p : List ℕ) × (ps : List (List ℕ)) × ((if v then [] ∷ parts_of bs else before_first b (parts_of bs)) ≡ p ∷ ps)
-    by true s = ([], parts_of bs, refl)
-    by false s = (b ∷ s.0, s.1, ap (before_first b) s.2)
-
 -- what is written of a word, part by part
 pub word-end : (n : ℕ) (w : List ℕ) → n ≡ colon_size w → n ≡ length w → clamped_word w ≡ clamped_part (take n w)
 word-end n w e h =
-    ap (λ ps. between_colons (map clamped_part ps)) (last-part w (sym e ∙ h)) ∙ append-nil (clamped_part w) ∙ ap clamped_part (sym (take_all n w (omega (arith, h))))
+    ap (λ ps. between_colons (map clamped_part ps)) (one-part w n e h) ∙ append-nil (clamped_part w) ∙ ap clamped_part (sym (take_all n w (omega (arith, h))))
 
 pub word-next : (n : ℕ) (w : List ℕ) → n ≡ colon_size w → n < length w → clamped_word w ≡ clamped_part (take n w) ++ 58 ∷ clamped_word (drop (n + 1) w)
 word-next n w e h =
     let next = some-parts (drop (n + 1) w) in
-    let place : suc (colon_size w) ≡ n + 1 = omega (arith, e) in
-    ap (λ ps. between_colons (map clamped_part ps)) (cut-part w (omega (arith, e, h)) ∙ ap (λ k. take k w ∷ parts_of (drop (suc (colon_size w)) w)) (sym e) ∙ ap (λ k. take n w ∷ parts_of (drop k w)) place)
+    ap (λ ps. between_colons (map clamped_part ps)) (next-part w (drop (n + 1) w) n e h refl)
     ∙ ap (λ ps. clamped_part (take n w) ++ with_colons (map clamped_part ps)) next.2
     ∙ ap (λ ps. clamped_part (take n w) ++ 58 ∷ between_colons (map clamped_part ps)) (sym next.2)
 

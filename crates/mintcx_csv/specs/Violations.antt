@@ -5,9 +5,10 @@ use Rattle.mintc_text.specs.Signs.{space}
 use Rattle.mintc_timing.specs.declared.violation.Broken.{Broken}
 use Rattle.mintc_timing.specs.declared.violation.Broken.TheVariants as broken
 use Rattle.mintc_timing.specs.declared.violation.Violation.{Violation}
-use Rattle.mintc_timing.specs.Design.{Timing, pair_at}
+use Rattle.mintc_timing.specs.Design.{Timing}
 use Rattle.mintcx_frame.specs.Names.{element_name, phase_name}
 use Rattle.mintcx_judgements.specs.Fails.{AreRanked, violation_at}
+use Rattle.mintcx_judgements.specs.Sources.{from_of}
 use Rattle.mintcx_csv.specs.Tables.{IsTable, shown_over}
 
 -- the word of a kind
@@ -25,10 +26,6 @@ kind_word (broken.Hold l) = codes "hold"
 -- two names with a space between
 abbrev pub both : List ℕ → List ℕ → List ℕ
 both one other = one ++ space ∷ other
-
--- the element from which a pair's data comes
-abbrev pub from_of : Timing → ℕ → List ℕ
-from_of t n = element_name t.flat (pair_at t n).from
 
 -- the elements round which data goes, from each pair of a loop the first, with a space between two
 abbrev pub ring_text : Timing → List ℕ → List ℕ

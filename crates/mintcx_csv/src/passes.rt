@@ -2,7 +2,7 @@
 ghost use Rattle.std.specs.Prelude.{◌≡◌, ◌<◌, ◌++◌, ℕ, ℤ, length, All, IfOk, OnOk};
 ghost use Rattle.csv.specs.Writing.{row_text};
 ghost use Rattle.mintc_timing.specs.Design.{element_count, phase_count};
-ghost use Rattle.mintc_timing.specs.Limits.{IsInRange};
+ghost use Rattle.mintc_timing.specs.Limits.{IsDesign, IsInRange};
 ghost use Rattle.mintcx_csv.specs.Passes.{IsPassTable, pass_fields, pass_record, pass_records, room_field};
 ghost use Rattle.mintcx_csv.specs.Records.{IsBetween, text_so_far};
 ghost use Rattle.mintcx_csv.specs.Tables.{IsTable, by_rfc, shown_over};
@@ -89,11 +89,11 @@ fn put_room(
 
 /// The table of elements in the order of their places.
 fn rooms_csv(alloc: Global, causes: &Causes<'_>, places: &[Place]) -> Result<Bytes, OutOfMemory>
-    requires { All (λ (place : ℕ × ℤ × ℕ). place.2 < element_count causes.now.told.system.now.flat) places.now }
+    requires inside { All (λ (place : ℕ × ℤ × ℕ). place.2 < element_count causes.now.told.system.now.flat) places.now }
+    requires design { IsDesign causes.now.told.system.now.flat }
     ensures { IfOk result (IsTable (pass_records causes.now.told.system.now causes.now.told.schedule.now
         causes.now.late.now causes.now.early.now places.now)) }
 {
-    let _flat = causes.told.flat();
     let mut records = no_records(alloc);
     put_pass_head(&mut records, causes.told.schedule.den)?;
     for place in places {

@@ -3,9 +3,10 @@ ghost use Rattle.std.specs.Prelude.{◌≡◌, ◌<◌, ◌++◌, ℕ, ℤ, leng
 ghost use Rattle.csv.specs.Writing.{row_text};
 ghost use Rattle.mintc_text.specs.Lines.{spaced};
 ghost use Rattle.mintcx_judgements.specs.Named.{AreNamed, IsNamed};
+ghost use Rattle.mintcx_judgements.specs.Sources.{from_of};
 ghost use Rattle.mintcx_csv.specs.Records.{IsBetween, text_so_far};
 ghost use Rattle.mintcx_csv.specs.Tables.{IsTable, by_rfc, shown_over};
-ghost use Rattle.mintcx_csv.specs.Violations.{IsFailTable, both, fail_fields, fail_record, fail_records, from_of};
+ghost use Rattle.mintcx_csv.specs.Violations.{IsFailTable, both, fail_fields, fail_record, fail_records};
 ghost use Rattle.mintcx_csv.specs.Violations.{kind_word, of_text, ring_text};
 
 use crate::records::{Records, no_records, numeral, put_over, text_of};
@@ -13,7 +14,7 @@ use itoa::Buffer;
 use mintc_text::{Bytes, Lines, OutOfMemory};
 use mintc_timing::{Broken, System, Violation};
 use mintcx_frame::{element_name, phase_name, put_number};
-use mintcx_judgements::{Place, ranked};
+use mintcx_judgements::{Place, from_of, ranked};
 use std::alloc::Global;
 
 /// How many columns the table has before that of the denominator.
@@ -34,15 +35,6 @@ fn kind_word(broken: &Broken) -> &'static [u8]
         Broken::Setup { .. } => b"setup",
         Broken::Hold { .. } => b"hold",
     }
-}
-
-/// The element from which a pair's data comes.
-fn from_of(system: &System, pair: u32) -> &[u8]
-    requires { pair < length system.now.pairs }
-    ensures { result.now ≡ from_of system.now pair }
-{
-    let from = system.pair(pair as usize).from;
-    system.element(from).name.bytes()
 }
 
 /// Writes two names.

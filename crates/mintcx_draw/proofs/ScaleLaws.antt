@@ -15,7 +15,8 @@ use Rattle.mintcx_chart.specs.declared.lanes.Lane.{Lane}
 use Rattle.mintcx_chart.specs.Stretches.{IsShown, greatest_of, least_of, times_of}
 use Rattle.mintcx_draw.specs.declared.chain.Lanes.{Lanes}
 use Rattle.mintcx_draw.specs.Drawings.{IsDrawnChain, IsOfRows, IsScaleOf, next_time}
-use Rattle.mintcx_draw.specs.Lanes.{drawn_count, no_row, shown_times, AreAll, AreOfStages}
+use Rattle.mintcx_draw.specs.Lanes.{drawn_count, shown_times, AreAll, AreOfStages}
+use Rattle.mintcx_optima.specs.Tables.{no_row}
 use Rattle.mintcx_draw.proofs.ChainLaws.{rows_count}
 use Rattle.mintcx_draw.proofs.WideLaws.{read_chain, read_cycle, read_den, short, wide}
 

@@ -1,5 +1,5 @@
 -- What is drawn of a certificate.
-use Rattle.std.specs.Prelude.{◌≡◌, ℕ, ℤ, pos, ◌≤ℤ◌, List, [], ◌∷◌, ◌++◌, take, slice_index_or, Option, Some, None}
+use Rattle.std.specs.Prelude.{◌≡◌, ℕ, ℤ, pos, ◌≤ℤ◌, List, [], ◌∷◌, ◌++◌, take, Option, Some, None}
 use Rattle.mintc_timing.specs.declared.clocking.Schedule.{Schedule}
 use Rattle.mintc_timing.specs.Design.{Design}
 use Rattle.mintc_certificate.specs.declared.certificate.Certificate.{Certificate}
@@ -10,6 +10,7 @@ use Rattle.mintcx_chain.specs.declared.rows.Row.{Row}
 use Rattle.mintcx_chain.specs.declared.stages.Stage.{Stage}
 use Rattle.mintcx_chain.specs.Rows.{rows_of}
 use Rattle.mintcx_optima.specs.Optimum.{AreStages}
+use Rattle.mintcx_optima.specs.Tables.{row_of}
 use Rattle.mintcx_picture.specs.declared.drawn.Drawn.{Drawn}
 use Rattle.mintcx_picture.specs.declared.drawn.Drawn.TheVariants.{NoCycle, NoSchedule, Picture, TooLong}
 use Rattle.mintcx_picture.specs.declared.forms.Form.{Form}
@@ -20,7 +21,7 @@ use Rattle.mintcx_picture.specs.Places.{IsScale}
 use Rattle.mintcx_chart.specs.declared.lanes.Lane.{Lane}
 use Rattle.mintcx_chart.specs.Rows.{AreBars, AreRows}
 use Rattle.mintcx_chart.specs.Stretches.{IsShown, greatest_of, least_of}
-use Rattle.mintcx_draw.specs.Lanes.{AreOfStages, drawn_count, no_row, shown_times}
+use Rattle.mintcx_draw.specs.Lanes.{AreOfStages, drawn_count, shown_times}
 
 -- The layers of a picture: what lies below, the rows, the bars of the first ones, and what stands below them.
 abbrev pub AreLayers : Scale → UnitOfTime → ℕ → List Lane → List (List Form) → Type 0
@@ -35,7 +36,7 @@ IsOfRows scale unit count lanes text = (head : Head) × (layers : List (List For
 
 -- when the first stage begins that isn't drawn, or the first one again where all are
 abbrev pub next_time : List Stage → List Row → ℤ
-next_time stages rows = (slice_index_or rows (drawn_count stages) no_row).at
+next_time stages rows = (row_of rows (drawn_count stages)).at
 
 -- when what a picture shows begins and ends, some more on both sides aside
 abbrev pub first_time : Design → Schedule → List Stage → List Row → ℤ

@@ -1,6 +1,6 @@
 -- The rows of a chain that are drawn.
 use Rattle.std.specs.Prelude.{◌≡◌, ◌≤◌, ◌+◌, ◌-◌, ℕ, ℤ, pos, ◌+ℤ◌, ◌*ℤ◌, min, nat_le, if◌then◌else◌, IsFalse, IsTrue}
-use Rattle.std.specs.Prelude.{List, [], ◌∷◌, ◌++◌, length, take, map, flat_map, slice_index_or, All, Option, Some, None}
+use Rattle.std.specs.Prelude.{List, [], ◌∷◌, ◌++◌, length, take, map, flat_map, All, Option, Some, None}
 use Rattle.std.specs.List.{range_with_len}
 use Rattle.mintc_timing.specs.declared.clocking.Schedule.{Schedule}
 use Rattle.mintc_timing.specs.Clocking.{start_of, width_of}
@@ -14,6 +14,7 @@ use Rattle.mintcx_chart.specs.declared.lanes.Holder.{Holder}
 use Rattle.mintcx_chart.specs.declared.lanes.Lane.{Lane}
 use Rattle.mintcx_chart.specs.Sheets.{IsLane}
 use Rattle.mintcx_chart.specs.Stretches.{is_clock, lane_times, times_of}
+use Rattle.mintcx_optima.specs.Tables.{row_of}
 use Rattle.mintcx_draw.specs.declared.chain.Lanes.{Lanes}
 use Rattle.mintcx_draw.specs.Parts.{IsCounted}
 
@@ -43,13 +44,9 @@ lane_facts lane = (lane.name, lane.at, lane.delay, lane.ends)
 abbrev pub stage_facts : Design → ℤ → Stage → Row → List ℕ × ℤ × ℤ × ℤ
 stage_facts design den stage row = (from_name design stage, row.at, stage.delay, row.at +ℤ stage.delay *ℤ den)
 
--- a row by its number; past the last one stands this one
-abbrev pub no_row : Row
-no_row = record { at = pos 0; cycle = 0; borrows = pos 0 }
-
 -- the same of the stage of a number
 abbrev pub facts_at : Design → ℤ → List Stage → List Row → ℕ → List ℕ × ℤ × ℤ × ℤ
-facts_at design den stages rows n = stage_facts design den (stage_at stages n) (slice_index_or rows n no_row)
+facts_at design den stages rows n = stage_facts design den (stage_at stages n) (row_of rows n)
 
 -- The first so many rows are those of the first stages, in their order.
 abbrev pub AreOfStages : Design → ℤ → List Stage → List Row → ℕ → List Lane → Type 0
@@ -73,7 +70,7 @@ stage_times design s stage row = row.at ∷ window_times design s (pos (row.cycl
 
 -- the same of the stage of a number
 abbrev pub times_at : Design → Schedule → List Stage → List Row → ℕ → List ℤ
-times_at design s stages rows n = stage_times design s (stage_at stages n) (slice_index_or rows n no_row)
+times_at design s stages rows n = stage_times design s (stage_at stages n) (row_of rows n)
 
 -- those of the first stages
 abbrev pub first_times : Design → Schedule → List Stage → List Row → ℕ → List ℤ
@@ -82,7 +79,7 @@ first_times design s stages rows n = flat_map (times_at design s stages rows) (r
 -- those of the first stage again, behind all others
 abbrev pub again_times : Design → Schedule → List Stage → List Row → List ℤ
 again_times design s stages rows =
-    stage_times design s (stage_at stages 0) (slice_index_or rows (length stages) no_row)
+    stage_times design s (stage_at stages 0) (row_of rows (length stages))
 
 -- The times that a picture shows: those of its first stages, and of the first one again where these are all.
 abbrev pub shown_times : Design → Schedule → List Stage → List Row → List ℤ
@@ -101,7 +98,7 @@ pub record AreFirst (design : Design) (s : Schedule) (stages : List Stage) (rows
   pub each : All IsLane shown.lanes.items
   pub count : length shown.lanes.items ≡ drawn_count stages
   pub facts : map lane_facts shown.lanes.items
-    ≡ map (facts_at design s.den stages rows) (range_with_len 0 (drawn_count stages))
+      ≡ map (facts_at design s.den stages rows) (range_with_len 0 (drawn_count stages))
   pub times : times_of s.cycle shown.lanes.items ≡ first_times design s stages rows (drawn_count stages)
   pub least : 138 ≤ shown.below
   pub most : shown.below ≤ 1818
@@ -109,7 +106,7 @@ pub record AreFirst (design : Design) (s : Schedule) (stages : List Stage) (rows
 -- These rows with one more that shows these times, and how high they end then.
 pub record HasOneMore (cycle : ℤ) (times : List ℤ) (old new : Lanes) : Type 0 where
   pub more : (lane : Lane) × IsLane lane × (lane_times cycle lane ≡ times)
-    × (new.lanes.items ≡ old.lanes.items ++ lane ∷ [])
+      × (new.lanes.items ≡ old.lanes.items ++ lane ∷ [])
   pub least : old.below ≤ new.below
   pub most : new.below ≤ old.below + 58
 

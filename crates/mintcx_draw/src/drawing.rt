@@ -2,7 +2,7 @@
 ghost use Rattle.std.specs.Prelude.{◌≤◌, pos, ◌≤ℤ◌, length, All, IfOk};
 ghost use Rattle.mintc_certificate.specs.Ranges.{IsCertificateInRange, IsChainInRange};
 ghost use Rattle.mintc_certificate.specs.Valid.{IsMember, IsValid};
-ghost use Rattle.mintc_timing.specs.Limits.{IsInRange};
+ghost use Rattle.mintc_timing.specs.Limits.{IsDesign, IsInRange};
 ghost use Rattle.mintcx_chain.specs.Rows.{IsClocked};
 ghost use Rattle.mintcx_optima.specs.Least.{IsRing};
 ghost use Rattle.mintcx_picture.specs.Places.{IsScale};
@@ -90,6 +90,7 @@ fn on_scale(
     scale: Scale,
     subject: &Name,
 ) -> Result<Bytes, OutOfMemory>
+    requires design { IsDesign told.now.flat.now }
     requires in_range { IsInRange told.now.schedule.now }
     requires cycle { pos 1 ≤ℤ told.now.schedule.now.cycle }
     requires ring { IsRing told.now.flat.now stages.now }
@@ -100,7 +101,6 @@ fn on_scale(
     requires scale { IsScale scale }
     ensures { IfOk result (IsOfRows scale told.now.unit (drawn_count stages.now) shown.now.lanes.items) }
 {
-    let _phases = told.flat.phase_count();
     let waves = waves_of(alloc, told.flat, told.schedule)?;
     let sheet = Sheet {
         lanes: &shown.lanes,
@@ -130,6 +130,7 @@ fn drawn_of(
     stages: &[Stage],
     subject: &Name,
 ) -> Result<Drawn, OutOfMemory>
+    requires design { IsDesign told.now.flat.now }
     requires cycle { pos 1 ≤ℤ told.now.schedule.now.cycle }
     requires clocked { IsClocked told.now.flat.now told.now.schedule.now departures.now }
     requires ring { IsRing told.now.flat.now stages.now }

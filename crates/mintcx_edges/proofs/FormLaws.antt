@@ -1,45 +1,23 @@
 -- A library with gates for the clock has one list of cells at most, which is its own where no gate is named.
-use Rattle.std.proofs.Common.{◌≡◌, ℕ, ◌<◌, List, [], length, get_or, All, Option, Some, None, IsSome, Ok, Err, sym, ap, ◌∙◌, subst, arith}
+use Rattle.std.proofs.Common.{◌≡◌, ℕ, ◌<◌, List, [], length, get_or, All, Option, Some, None, IsSome, sym, ap, ◌∙◌, subst, arith}
 use Rattle.std.proofs.lemmas.List.{length-map, get_or-map, ext_get_or}
 use Rattle.mintc_text.specs.declared.refusals.Refusal.{Refusal}
-use Rattle.mintc_text.specs.declared.refusals.Refusal.TheVariants as refusal
-use Rattle.mintc_text.specs.declared.refusals.Role.TheVariants as role
 use Rattle.mintc_cells.specs.declared.cell.Cell.{Cell}
-use Rattle.mintc_cells.specs.CellsOf.{AreCells, IsBadCell, IsBadCellBy}
 use Rattle.mintc_cells.specs.Entries.{names_of, name_at, cell_at, no_cell, number_of}
-use Rattle.mintc_cells.specs.Laws.{BadCellsAreDetermined, CellsAreDetermined, CellsAreNotRefused}
-use Rattle.mintc_liberty.specs.Meaning.{liberty_cells}
+use Rattle.mintc_cells.specs.Laws.{CellsAreDetermined}
 use Rattle.mintc_flatten_hierarchy.specs.Shape.{CellTable}
 use Rattle.mintc_build.specs.FilesDesign.{CellText, described_by, library_by, IsLibraryRefusal}
 use Rattle.mintcx_clock_cells.specs.Clocks.{Senses, HasClockCells, IsFit, IsUnknown, IsUnusable, IsFirstUnfit, IsUnfit, senses_in, cell_for, clock_at}
 use Rattle.mintcx_clock_cells.specs.declared.unfit.Unfit.TheVariants as unfit
+use Rattle.mintc_build.proofs.SharedFilesLaws.{one_library, no_library, one_library_refusal}
 use Rattle.mintcx_edges.specs.EdgeFiles.{SensedText, description, library_with, cells_with}
+use Rattle.mintcx_edges.proofs.PlainLaws.{IsPlain}
 
 -- ---- forms of cells
-
--- cells of one form: a text has one list of them, or one refusal
-pub record IsPlainForm (by : List ℕ → SensedText) : Type 1 where
-  pub one_cells : (c : List ℕ) (a b : CellTable) → (by c).cells.Describes a → (by c).cells.Describes b → a ≡ b
-  pub no_refused : (c : List ℕ) (cells : CellTable) (refused : Refusal) → (by c).cells.Describes cells → (by c).cells.Refuses refused → ⊥
-  pub one_refused : (c : List ℕ) (refused other : Refusal) → (by c).cells.Refuses refused → (by c).cells.Refuses other → refused ≡ other
 
 -- two forms: a text has the same cells in both
 abbrev pub AreSameForms : (List ℕ → CellText) → (List ℕ → SensedText) → Type 0
 AreSameForms by with_senses = (c : List ℕ) (a b : CellTable) → (by c).Describes a → (with_senses c).cells.Describes b → a ≡ b
-
-no_described : CellsAreNotRefused → (c : List ℕ) (cells : CellTable) (refused : Refusal) → AreCells c cells → IsBadCellBy (IsBadCell c) refused → ⊥
-no_described law c cells (refusal.BadCell n rule) h k = law c cells n rule h k
-no_described law c cells _ h k = k
-
-one_described_refusal : BadCellsAreDetermined → (c : List ℕ) (refused other : Refusal) → IsBadCellBy (IsBadCell c) refused → IsBadCellBy (IsBadCell c) other → refused ≡ other
-one_described_refusal law c (refusal.BadCell n rule) (refusal.BadCell m another) h k =
-    let both = law c n rule m another h k in
-    ap (λ x. refusal.BadCell x rule) both.0 ∙ ap (refusal.BadCell m) both.1
-one_described_refusal law c (refusal.BadCell n rule) _ h k = absurd k
-one_described_refusal law c _ other h k = absurd h
-
-pub described_plain : CellsAreDetermined → CellsAreNotRefused → BadCellsAreDetermined → IsPlainForm description
-described_plain one none bad = record { one_cells = one; no_refused = no_described none; one_refused = one_described_refusal bad }
 
 pub described_same : CellsAreDetermined → AreSameForms described_by description
 described_same law = law
@@ -67,19 +45,10 @@ same-cells a b names each = ext_get_or no_cell a b (same-length a b names) at
         let within : k < length b = omega (arith, h, same-length a b names) in
         entry (get_or a k no_cell) (get_or b k no_cell) (sym (name-there a k h) ∙ ap (λ ns. get_or ns k []) names ∙ name-there b k within) (each k h)
 
-one-library : (c : List ℕ) (a b : CellTable) → liberty_cells c ≡ Ok a → liberty_cells c ≡ Ok b → a ≡ b
-one-library c a b h k = cc
-
-one-number : (c : List ℕ) (n m : ℕ) → liberty_cells c ≡ Err n → liberty_cells c ≡ Err m → n ≡ m
-one-number c n m h k = cc
-
-no-library : (c : List ℕ) (cells : CellTable) (n : ℕ) → liberty_cells c ≡ Ok cells → liberty_cells c ≡ Err n → ⊥
-no-library c cells n h k = absurd (cc)
-
 module _ (gates : List (List ℕ)) where
   one_gated : (c : List ℕ) (a b : CellTable) → HasClockCells c gates a → HasClockCells c gates b → a ≡ b
   one_gated c a b h k =
-      let own : h.own ≡ k.own = one-library c h.own k.own h.library k.library in
+      let own : h.own ≡ k.own = one_library c h.own k.own h.library k.library in
       same-cells a b (h.names ∙ ap names_of own ∙ sym k.names) (λ i l. at own i l)
     where
       at : h.own ≡ k.own → (i : ℕ) → i < length a → cell_at a i ≡ cell_at b i
@@ -89,18 +58,15 @@ module _ (gates : List (List ℕ)) where
           h.each i first ∙ ap (λ (o : CellTable). cell_for gates (senses_in c o) o i) own ∙ sym (k.each i second)
 
   no_gated : (c : List ℕ) (cells : CellTable) (refused : Refusal) → HasClockCells c gates cells → IsLibraryRefusal c refused → ⊥
-  no_gated c cells refused h k = no-library c h.own k.0 h.library k.1
+  no_gated c cells refused h k = no_library c h.own refused h.library k
 
-  one_gated_refusal : (c : List ℕ) (refused other : Refusal) → IsLibraryRefusal c refused → IsLibraryRefusal c other → refused ≡ other
-  one_gated_refusal c refused other (n, h, named) (m, k, other_named) = named ∙ ap (refusal.Syntax role.Cells) (one-number c n m h k) ∙ sym other_named
-
-  pub library_plain : IsPlainForm (library_with gates)
-  library_plain = record { one_cells = one_gated; no_refused = no_gated; one_refused = one_gated_refusal }
+  pub library_plain : IsPlain (library_with gates)
+  library_plain = record { one_cells = one_gated; no_refused = no_gated; one_refused = one_library_refusal }
 
 -- where no gate is named the cells are the library's own
 pub library_same : AreSameForms library_by (library_with [])
 library_same c a b h k =
-    let own : a ≡ k.own = one-library c a k.own h k.library in
+    let own : a ≡ k.own = one_library c a k.own h k.library in
     own ∙ sym (same-cells b k.own k.names (λ i l. k.each i (omega (arith, l, same-length b k.own k.names))))
 
 pub gated_same : (gates : List (List ℕ)) → AreSameForms (cells_with gates) (library_with gates)
@@ -130,10 +96,10 @@ module _ (senses : Senses) (own : CellTable) (gates : List (List ℕ)) (at : ℕ
 
 pub gates_known : (l : List ℕ) (gates : List (List ℕ)) (cells : CellTable) (at : ℕ) → HasClockCells l gates cells → IsUnfit l gates (unfit.Unknown at) → ⊥
 gates_known l gates cells at has (own, is, first) =
-    let same : own ≡ has.own = one-library l own has.own is has.library in
+    let same : own ≡ has.own = one_library l own has.own is has.library in
     all_known (senses_in l has.own) has.own gates at has.fit (subst (λ (o : CellTable). IsFirstUnfit (senses_in l o) o gates at (IsUnknown o)) same first)
 
 pub gates_usable : (l : List ℕ) (gates : List (List ℕ)) (cells : CellTable) (at : ℕ) → HasClockCells l gates cells → IsUnfit l gates (unfit.Unusable at) → ⊥
 gates_usable l gates cells at has (own, is, first) =
-    let same : own ≡ has.own = one-library l own has.own is has.library in
+    let same : own ≡ has.own = one_library l own has.own is has.library in
     all_usable (senses_in l has.own) has.own gates at has.fit (subst (λ (o : CellTable). IsFirstUnfit (senses_in l o) o gates at (IsUnusable (senses_in l o) o)) same first)

@@ -24,7 +24,8 @@ use Rattle.mintcx_edges.specs.EdgeFiles.{SensedText, IsEdgeDesignOver}
 use Rattle.mintcx_edges.specs.Laws.{AreTimingsOf, SchedulesAreKept, CyclesAreNoGreater}
 use Rattle.mintcx_edges.proofs.FormLaws.{AreSameForms}
 use Rattle.mintcx_edges.proofs.MergedLaws.{same-ranges}
-use Rattle.mintcx_edges.proofs.PlainLaws.{one_netlist, one_delays, one_hierarchy, moved}
+use Rattle.mintc_build.proofs.SharedFilesLaws.{one_netlist, one_hierarchy, moved}
+use Rattle.mintcx_edges.proofs.PlainLaws.{one_delays}
 
 -- the laws of the texts
 pub record AreTextLaws : Type 0 where

@@ -1,98 +1,60 @@
 -- Four files have one design with edges apart or one refusal.
-use Rattle.std.proofs.Common.{◌≡◌, ℕ, List, [], ◌∷◌, Option, Some, None, Ok, Err, sym, ap, ◌∙◌, subst}
+use Rattle.std.proofs.Common.{◌≡◌, ℕ, List, Option, Some, Err, sym, ap, ◌∙◌}
 use Rattle.mintc_text.specs.declared.limits.Most.{Most}
 use Rattle.mintc_text.specs.declared.refusals.Refusal.{Refusal}
 use Rattle.mintc_text.specs.declared.refusals.Refusal.TheVariants as refusal
 use Rattle.mintc_text.specs.declared.refusals.Role.TheVariants as role
 use Rattle.mintc_timing.specs.Design.{Design}
-use Rattle.mintc_netlist.specs.declared.module.Module.{Module}
 use Rattle.mintc_netlist.specs.declared.module.Netlist.{Netlist}
-use Rattle.mintc_verilog.specs.Netlists.{IsNetlist}
 use Rattle.mintc_verilog.specs.Laws.{HaveOneNetlist, HaveNoFault, HaveOneFault}
-use Rattle.mintc_sdf.specs.declared.delays.Delay.{Delay}
 use Rattle.mintc_sdf.specs.Texts.{delays_of}
 use Rattle.mintc_sdf_edges.specs.declared.delays.EdgeDelay.{EdgeDelay}
 use Rattle.mintc_sdf_edges.specs.Texts.{AreTold, told_in}
 use Rattle.mintc_clock.specs.declared.clock.Clock.{Clock}
-use Rattle.mintc_clock.specs.ClockOf.{IsClock, IsClockRefusal}
 use Rattle.mintc_clock.specs.Laws.{BadClocksAreDetermined, ClocksAreDetermined, ClocksAreNotRefused}
 use Rattle.mintc_flatten_hierarchy.specs.declared.hierarchy.Hierarchy.{Hierarchy}
-use Rattle.mintc_flatten_hierarchy.specs.Sources.{Source, source_of}
-use Rattle.mintc_flatten_hierarchy.specs.Hierarchies.{hierarchy_of}
-use Rattle.mintc_flatten_hierarchy.specs.Refusals.{tops_of, refusal_of, IsHierarchy, IsRefusal}
+use Rattle.mintc_flatten_hierarchy.specs.Sources.{source_of}
+use Rattle.mintc_flatten_hierarchy.specs.Refusals.{refusal_of}
 use Rattle.mintc_flatten_hierarchy.specs.Shape.{CellTable}
 use Rattle.mintc_senses_expressions.specs.declared.transitions.Transitions.{Transitions}
 use Rattle.mintc_edges.specs.Numbers.{sense_of}
 use Rattle.mintc_edges.specs.Apart.{IsEdgeDesign, IsEdgeRefusal}
 use Rattle.mintc_edges.specs.Laws.{EdgeDesignsAreDetermined, EdgeDesignsAreNotRefused, EdgeRefusalsAreDetermined}
-use Rattle.mintc_build.specs.FilesDesign.{IsHierarchyOf, IsHierarchyRefusal}
+use Rattle.mintc_build.specs.FilesDesign.{IsHierarchyOf}
+use Rattle.mintc_build.proofs.SharedFilesLaws.{AreFilesLaws, IsPlainForm, one_of, one_netlist, one_delays as one_said, no_delays as none_said, one_delays_refusal, no_clock, one_clock_refusal, one_hierarchy, no_hierarchy, moved, moved_refusal, moved_by}
 use Rattle.mintcx_edges.specs.EdgeFiles.{SensedText, AreReadApart, IsEdgeDesignOver, IsEdgeRefusalOver, of_netlist, of_delays, of_cells, of_clock, of_hierarchy, of_design}
 use Rattle.mintcx_edges.specs.Laws.{AreEdgePlain}
-use Rattle.mintcx_edges.proofs.FormLaws.{IsPlainForm}
 
 -- the laws of the texts and of what is made of them
-pub record AreFilesLaws : Type 0 where
-  pub one_netlist : HaveOneNetlist
-  pub no_fault : HaveNoFault
-  pub one_fault : HaveOneFault
-  pub one_clock : ClocksAreDetermined
-  pub no_bad_clock : ClocksAreNotRefused
-  pub one_bad_clock : BadClocksAreDetermined
-  pub one_design : EdgeDesignsAreDetermined
-  pub no_refusal : EdgeDesignsAreNotRefused
-  pub one_refusal : EdgeRefusalsAreDetermined
+abbrev pub AreLaws : Type 0
+AreLaws = AreFilesLaws EdgeDesignsAreDetermined EdgeDesignsAreNotRefused EdgeRefusalsAreDetermined
 
-one_of : {A : Type 0} (o : Option A) (x y : A) → o ≡ Some x → o ≡ Some y → x ≡ y
-one_of o x y a b = cc
+pub laws_of : HaveOneNetlist → HaveNoFault → HaveOneFault → ClocksAreDetermined → ClocksAreNotRefused → BadClocksAreDetermined → EdgeDesignsAreDetermined → EdgeDesignsAreNotRefused → EdgeRefusalsAreDetermined → AreLaws
+laws_of netlists sound faulty clocks fit unfit designs accepted refused = record {
+  one_netlist = netlists;
+  no_fault = sound;
+  one_fault = faulty;
+  one_clock = clocks;
+  no_bad_clock = fit;
+  one_bad_clock = unfit;
+  one_design = designs;
+  no_refusal = accepted;
+  one_refusal = refused;
+}
 
-none_or : {A : Type 0} (o : Option A) (x : A) → o ≡ None → o ≡ Some x → ⊥
-none_or o x a b = absurd (cc)
+-- a form of cells, of which a text has one list or one refusal
+abbrev pub IsPlain : (List ℕ → SensedText) → Type 1
+IsPlain by = IsPlainForm (λ c. (by c).cells)
 
--- what each text gives is one
-netlist_from : (a b : Netlist) → a.modules ≡ b.modules → a ≡ b
-netlist_from a b same = ap (λ (ms : List Module). record { modules = ms }) same
-
-pub one_netlist : HaveOneNetlist → (v : List ℕ) (a b : Netlist) → IsNetlist v a → IsNetlist v b → a ≡ b
-one_netlist law v a b h k = netlist_from a b (law v a b h k)
-
-same_said : (d : List ℕ) (ds es : List Delay) → delays_of d ≡ Ok ds → delays_of d ≡ Ok es → ds ≡ es
-same_said d ds es h k = cc
-
+-- delays that are told
 one_told : (o : Option (List EdgeDelay)) (a b : List EdgeDelay) → o ≡ Some a → o ≡ Some b → a ≡ b
 one_told o a b h k = cc
 
 pub one_delays : (d : List ℕ) (a b : List EdgeDelay) → AreTold d a → AreTold d b → a ≡ b
-one_delays d a b (ds, h, told) (es, k, also) = one_told (told_in d es) a b (ap (told_in d) (sym (same_said d ds es h k)) ∙ told) also
-
-no_said : (d : List ℕ) (ds : List Delay) (refused : Refusal) → delays_of d ≡ Ok ds → delays_of d ≡ Err refused → ⊥
-no_said d ds refused h k = absurd (cc)
+one_delays d a b (ds, h, told) (es, k, also) = one_told (told_in d es) a b (ap (told_in d) (sym (one_said d ds es h k)) ∙ told) also
 
 no_delays : (d : List ℕ) (a : List EdgeDelay) (refused : Refusal) → AreTold d a → delays_of d ≡ Err refused → ⊥
-no_delays d a refused h k = no_said d h.0 refused h.1 k
-
-one_delays_refusal : (d : List ℕ) (refused other : Refusal) → delays_of d ≡ Err refused → delays_of d ≡ Err other → refused ≡ other
-one_delays_refusal d refused other h k = cc
-
-no_clock : AreFilesLaws → (k : List ℕ) (clock : Clock) (refused : Refusal) → IsClock k clock → IsClockRefusal k refused → ⊥
-no_clock law k clock (refusal.BadClock n r) h g = law.no_bad_clock k clock n r h g
-no_clock law k clock _ h g = g
-
-one_clock_refusal : AreFilesLaws → (k : List ℕ) (refused other : Refusal) → IsClockRefusal k refused → IsClockRefusal k other → refused ≡ other
-one_clock_refusal law k (refusal.BadClock n r) (refusal.BadClock m s) h g =
-    let both = law.one_bad_clock k n r m s h g in
-    ap (λ x. refusal.BadClock x r) both.0 ∙ ap (refusal.BadClock m) both.1
-one_clock_refusal law k (refusal.BadClock n r) _ h g = absurd g
-one_clock_refusal law k _ other h g = absurd h
-
--- a netlist has one hierarchy from a top, and none beside a refusal
-head_of : (xs : List ℕ) (a b : ℕ) → xs ≡ a ∷ [] → xs ≡ b ∷ [] → a ≡ b
-head_of xs a b h k = cc
-
-pub one_hierarchy : (most : Most) (s : Source) (top : Option (List ℕ)) (a b : Hierarchy) → IsHierarchy most s top a → IsHierarchy most s top b → a ≡ b
-one_hierarchy most s top a b h k = h.is_of_top ∙ ap (hierarchy_of s) (head_of (tops_of s top) h.number k.number h.one_top k.one_top) ∙ sym k.is_of_top
-
-no_hierarchy : (most : Most) (s : Source) (top : Option (List ℕ)) (a : Hierarchy) (refused : Refusal) → IsHierarchy most s top a → IsRefusal most s top refused → ⊥
-no_hierarchy most s top a refused h k = none_or (refusal_of most s top) refused h.unrefused k
+no_delays d a refused h k = none_said d h.0 refused h.1 k
 
 -- Two readings of the same texts give the same.
 pub record AreSame (v d c k : List ℕ) (netlist other_netlist : Netlist) (delays other_delays : List EdgeDelay) (cells other_cells : CellTable) (clock other_clock : Clock) : Type 0 where
@@ -101,7 +63,7 @@ pub record AreSame (v d c k : List ℕ) (netlist other_netlist : Netlist) (delay
   pub same_cells : cells ≡ other_cells
   pub same_clock : clock ≡ other_clock
 
-same_reading : (by : List ℕ → SensedText) → AreFilesLaws → IsPlainForm by → (v d c k : List ℕ) (n m : Netlist) (ds es : List EdgeDelay) (cs bs : CellTable) (x y : Clock) → AreReadApart v d (by c).cells k n ds cs x → AreReadApart v d (by c).cells k m es bs y →
+same_reading : (by : List ℕ → SensedText) → AreLaws → IsPlain by → (v d c k : List ℕ) (n m : Netlist) (ds es : List EdgeDelay) (cs bs : CellTable) (x y : Clock) → AreReadApart v d (by c).cells k n ds cs x → AreReadApart v d (by c).cells k m es bs y →
     AreSame v d c k n m ds es cs bs x y
 same_reading by law plain v d c k n m ds es cs bs x y a b = record {
   same_netlist = one_netlist law.one_netlist v n m a.netlist_read b.netlist_read;
@@ -109,14 +71,6 @@ same_reading by law plain v d c k n m ds es cs bs x y a b = record {
   same_cells = plain.one_cells c cs bs a.cells_read b.cells_read;
   same_clock = law.one_clock k x y a.clock_read b.clock_read;
 }
-
-pub moved : (most : Most) (n m : Netlist) (cs bs : CellTable) (x y : Clock) (h : Hierarchy) → n ≡ m → cs ≡ bs → x ≡ y → IsHierarchyOf most m bs y h → IsHierarchyOf most n cs x h
-moved most n m cs bs x y h a b e is =
-    subst (λ (z : Netlist). IsHierarchyOf most z cs x h) (sym a) (subst (λ (z : CellTable). IsHierarchyOf most m z x h) (sym b) (subst (λ (z : Clock). IsHierarchyOf most m bs z h) (sym e) is))
-
-moved_refusal : (most : Most) (n m : Netlist) (cs bs : CellTable) (x y : Clock) (refused : Refusal) → n ≡ m → cs ≡ bs → x ≡ y → IsHierarchyRefusal most m bs y refused → IsHierarchyRefusal most n cs x refused
-moved_refusal most n m cs bs x y refused a b e is =
-    subst (λ (z : Netlist). IsHierarchyRefusal most z cs x refused) (sym a) (subst (λ (z : CellTable). IsHierarchyRefusal most m z x refused) (sym b) (subst (λ (z : Clock). IsHierarchyRefusal most m bs z refused) (sym e) is))
 
 abbrev SensesOf : Type 0
 SensesOf = CellTable → List (List (List Transitions))
@@ -128,20 +82,16 @@ abbrev Faulty : SensesOf → Most → Hierarchy → CellTable → Clock → List
 Faulty senses most h cs x ds refused = IsEdgeRefusal most h cs (sense_of (senses cs) cs) x ds refused
 
 moved_design : (senses : SensesOf) (most : Most) (h g : Hierarchy) (cs bs : CellTable) (x y : Clock) (ds es : List EdgeDelay) (design : Design) → h ≡ g → cs ≡ bs → x ≡ y → ds ≡ es → Made senses most g bs y es design → Made senses most h cs x ds design
-moved_design senses most h g cs bs x y ds es design a b e f is =
-    subst (λ (z : Hierarchy). Made senses most z cs x ds design) (sym a) (subst (λ (z : CellTable). Made senses most g z x ds design) (sym b)
-    (subst (λ (z : Clock). Made senses most g bs z ds design) (sym e) (subst (λ (z : List EdgeDelay). Made senses most g bs y z design) (sym f) is)))
+moved_design senses most h g cs bs x y ds es design = moved_by (λ k c z l. Made senses most k c z l design) h g cs bs x y ds es
 
 moved_fault : (senses : SensesOf) (most : Most) (h g : Hierarchy) (cs bs : CellTable) (x y : Clock) (ds es : List EdgeDelay) (refused : Refusal) → h ≡ g → cs ≡ bs → x ≡ y → ds ≡ es → Faulty senses most g bs y es refused → Faulty senses most h cs x ds refused
-moved_fault senses most h g cs bs x y ds es refused a b e f is =
-    subst (λ (z : Hierarchy). Faulty senses most z cs x ds refused) (sym a) (subst (λ (z : CellTable). Faulty senses most g z x ds refused) (sym b)
-    (subst (λ (z : Clock). Faulty senses most g bs z ds refused) (sym e) (subst (λ (z : List EdgeDelay). Faulty senses most g bs y z refused) (sym f) is)))
+moved_fault senses most h g cs bs x y ds es refused = moved_by (λ k c z l. Faulty senses most k c z l refused) h g cs bs x y ds es
 
 -- the hierarchies of two readings of the same texts
-same_hierarchy : (by : List ℕ → SensedText) → AreFilesLaws → IsPlainForm by → (most : Most) (v d c k : List ℕ) (n m : Netlist) (ds es : List EdgeDelay) (cs bs : CellTable) (x y : Clock) (h g : Hierarchy) → AreSame v d c k n m ds es cs bs x y → IsHierarchyOf most n cs x h → IsHierarchyOf most m bs y g → h ≡ g
+same_hierarchy : (by : List ℕ → SensedText) → AreLaws → IsPlain by → (most : Most) (v d c k : List ℕ) (n m : Netlist) (ds es : List EdgeDelay) (cs bs : CellTable) (x y : Clock) (h g : Hierarchy) → AreSame v d c k n m ds es cs bs x y → IsHierarchyOf most n cs x h → IsHierarchyOf most m bs y g → h ≡ g
 same_hierarchy by law plain most v d c k n m ds es cs bs x y h g same a b = one_hierarchy most (source_of cs n.modules) x.top h g a (moved most n m cs bs x y g same.same_netlist same.same_cells same.same_clock b)
 
-one_design : (by : List ℕ → SensedText) → AreFilesLaws → IsPlainForm by → (most : Most) (v d c k : List ℕ) (design other : Design) → IsEdgeDesignOver most v d (by c) k design → IsEdgeDesignOver most v d (by c) k other → design ≡ other
+one_design : (by : List ℕ → SensedText) → AreLaws → IsPlain by → (most : Most) (v d c k : List ℕ) (design other : Design) → IsEdgeDesignOver most v d (by c) k design → IsEdgeDesignOver most v d (by c) k other → design ≡ other
 one_design by law plain most v d c k design other a b =
     let same = same_reading by law plain v d c k a.netlist b.netlist a.delays b.delays a.cells b.cells a.clock b.clock a.read b.read in
     let shape = same_hierarchy by law plain most v d c k a.netlist b.netlist a.delays b.delays a.cells b.cells a.clock b.clock a.hierarchy b.hierarchy same a.flat b.flat in
@@ -149,11 +99,11 @@ one_design by law plain most v d c k design other a b =
     (moved_design ((by c).senses) most a.hierarchy b.hierarchy a.cells b.cells a.clock b.clock a.delays b.delays other shape same.same_cells same.same_clock same.same_delays b.apart)
 
 -- where there is a design each step is in form
-no_refusal : (by : List ℕ → SensedText) → AreFilesLaws → IsPlainForm by → (most : Most) (v d c k : List ℕ) (design : Design) (refused : Refusal) → IsEdgeDesignOver most v d (by c) k design → IsEdgeRefusalOver most v d (by c) k refused → ⊥
+no_refusal : (by : List ℕ → SensedText) → AreLaws → IsPlain by → (most : Most) (v d c k : List ℕ) (design : Design) (refused : Refusal) → IsEdgeDesignOver most v d (by c) k design → IsEdgeRefusalOver most v d (by c) k refused → ⊥
 no_refusal by law plain most v d c k design refused a (of_netlist (n, named, fault)) = law.no_fault v a.netlist n a.read.netlist_read fault
 no_refusal by law plain most v d c k design refused a (of_delays netlist is fault) = no_delays d a.delays refused a.read.delays_read fault
 no_refusal by law plain most v d c k design refused a (of_cells netlist delays is said fault) = plain.no_refused c a.cells refused a.read.cells_read fault
-no_refusal by law plain most v d c k design refused a (of_clock netlist delays cells is said described fault) = no_clock law k a.clock refused a.read.clock_read fault
+no_refusal by law plain most v d c k design refused a (of_clock netlist delays cells is said described fault) = no_clock law.no_bad_clock k a.clock refused a.read.clock_read fault
 no_refusal by law plain most v d c k design refused a (of_hierarchy netlist delays cells clock read fault) =
     let same = same_reading by law plain v d c k a.netlist netlist a.delays delays a.cells cells a.clock clock a.read read in
     no_hierarchy most (source_of a.cells a.netlist.modules) a.clock.top a.hierarchy refused a.flat (moved_refusal most a.netlist netlist a.cells cells a.clock clock refused same.same_netlist same.same_cells same.same_clock fault)
@@ -164,7 +114,7 @@ no_refusal by law plain most v d c k design refused a (of_design netlist delays 
     (moved_fault ((by c).senses) most a.hierarchy hierarchy a.cells cells a.clock clock a.delays delays refused shape same.same_cells same.same_clock same.same_delays fault)
 
 -- The first refusal of each step excludes those of all others.
-one_refusal : (by : List ℕ → SensedText) → AreFilesLaws → IsPlainForm by → (most : Most) (v d c k : List ℕ) (refused other : Refusal) → IsEdgeRefusalOver most v d (by c) k refused → IsEdgeRefusalOver most v d (by c) k other → refused ≡ other
+one_refusal : (by : List ℕ → SensedText) → AreLaws → IsPlain by → (most : Most) (v d c k : List ℕ) (refused other : Refusal) → IsEdgeRefusalOver most v d (by c) k refused → IsEdgeRefusalOver most v d (by c) k other → refused ≡ other
 one_refusal by law plain most v d c k refused other (of_netlist (n, a, fault)) (of_netlist (m, b, other_fault)) = a ∙ ap (refusal.Syntax role.Netlist) (law.one_fault v n m fault other_fault) ∙ sym b
 one_refusal by law plain most v d c k refused other (of_netlist (n, a, fault)) (of_delays m is b) = absurd (law.no_fault v m n is fault)
 one_refusal by law plain most v d c k refused other (of_netlist (n, a, fault)) (of_cells m ds is said b) = absurd (law.no_fault v m n is fault)
@@ -186,13 +136,13 @@ one_refusal by law plain most v d c k refused other (of_cells m ds is said a) (o
 one_refusal by law plain most v d c k refused other (of_clock m ds cs is said described a) (of_netlist (n, b, fault)) = absurd (law.no_fault v m n is fault)
 one_refusal by law plain most v d c k refused other (of_clock m ds cs is said described a) (of_delays n are b) = absurd (no_delays d ds other said b)
 one_refusal by law plain most v d c k refused other (of_clock m ds cs is said described a) (of_cells n es are told b) = absurd (plain.no_refused c cs other described b)
-one_refusal by law plain most v d c k refused other (of_clock m ds cs is said described a) (of_clock n es bs are told too b) = one_clock_refusal law k refused other a b
-one_refusal by law plain most v d c k refused other (of_clock m ds cs is said described a) (of_hierarchy n es bs x read b) = absurd (no_clock law k x refused read.clock_read a)
-one_refusal by law plain most v d c k refused other (of_clock m ds cs is said described a) (of_design n es bs x h read flat b) = absurd (no_clock law k x refused read.clock_read a)
+one_refusal by law plain most v d c k refused other (of_clock m ds cs is said described a) (of_clock n es bs are told too b) = one_clock_refusal law.one_bad_clock k refused other a b
+one_refusal by law plain most v d c k refused other (of_clock m ds cs is said described a) (of_hierarchy n es bs x read b) = absurd (no_clock law.no_bad_clock k x refused read.clock_read a)
+one_refusal by law plain most v d c k refused other (of_clock m ds cs is said described a) (of_design n es bs x h read flat b) = absurd (no_clock law.no_bad_clock k x refused read.clock_read a)
 one_refusal by law plain most v d c k refused other (of_hierarchy m ds cs x read a) (of_netlist (n, b, fault)) = absurd (law.no_fault v m n read.netlist_read fault)
 one_refusal by law plain most v d c k refused other (of_hierarchy m ds cs x read a) (of_delays n are b) = absurd (no_delays d ds other read.delays_read b)
 one_refusal by law plain most v d c k refused other (of_hierarchy m ds cs x read a) (of_cells n es are told b) = absurd (plain.no_refused c cs other read.cells_read b)
-one_refusal by law plain most v d c k refused other (of_hierarchy m ds cs x read a) (of_clock n es bs are told too b) = absurd (no_clock law k x other read.clock_read b)
+one_refusal by law plain most v d c k refused other (of_hierarchy m ds cs x read a) (of_clock n es bs are told too b) = absurd (no_clock law.no_bad_clock k x other read.clock_read b)
 one_refusal by law plain most v d c k refused other (of_hierarchy m ds cs x read a) (of_hierarchy n es bs y also b) =
     let same = same_reading by law plain v d c k m n ds es cs bs x y read also in
     one_of (refusal_of most (source_of cs m.modules) x.top) refused other a (moved_refusal most m n cs bs x y other same.same_netlist same.same_cells same.same_clock b)
@@ -202,7 +152,7 @@ one_refusal by law plain most v d c k refused other (of_hierarchy m ds cs x read
 one_refusal by law plain most v d c k refused other (of_design m ds cs x h read flat a) (of_netlist (n, b, fault)) = absurd (law.no_fault v m n read.netlist_read fault)
 one_refusal by law plain most v d c k refused other (of_design m ds cs x h read flat a) (of_delays n are b) = absurd (no_delays d ds other read.delays_read b)
 one_refusal by law plain most v d c k refused other (of_design m ds cs x h read flat a) (of_cells n es are told b) = absurd (plain.no_refused c cs other read.cells_read b)
-one_refusal by law plain most v d c k refused other (of_design m ds cs x h read flat a) (of_clock n es bs are told too b) = absurd (no_clock law k x other read.clock_read b)
+one_refusal by law plain most v d c k refused other (of_design m ds cs x h read flat a) (of_clock n es bs are told too b) = absurd (no_clock law.no_bad_clock k x other read.clock_read b)
 one_refusal by law plain most v d c k refused other (of_design m ds cs x h read flat a) (of_hierarchy n es bs y also b) =
     let same = same_reading by law plain v d c k m n ds es cs bs x y read also in
     absurd (no_hierarchy most (source_of cs m.modules) x.top h other flat (moved_refusal most m n cs bs x y other same.same_netlist same.same_cells same.same_clock b))
@@ -211,5 +161,5 @@ one_refusal by law plain most v d c k refused other (of_design m ds cs x h read 
     let shape = same_hierarchy by law plain most v d c k m n ds es cs bs x y h g same flat level in
     law.one_refusal most h cs (sense_of ((by c).senses cs) cs) x ds refused other a (moved_fault ((by c).senses) most h g cs bs x y ds es other shape same.same_cells same.same_clock same.same_delays b)
 
-pub plain_lem : (by : List ℕ → SensedText) → AreFilesLaws → IsPlainForm by → AreEdgePlain by
+pub plain_lem : (by : List ℕ → SensedText) → AreLaws → IsPlain by → AreEdgePlain by
 plain_lem by law plain = record { one_design = one_design by law plain; no_refusal = no_refusal by law plain; one_refusal = one_refusal by law plain }

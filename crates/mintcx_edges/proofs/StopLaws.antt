@@ -1,5 +1,5 @@
 -- What stops or halts a design on its way from four texts.
-use Rattle.std.proofs.Common.{◌≡◌, ℕ, List, Result, Ok, Err, IfOk, IfErr, MatchResult, inl, inr, subst}
+use Rattle.std.proofs.Common.{◌≡◌, ℕ, List, Result, Ok, Err, MatchResult, inl, inr, subst}
 use Rattle.mintc_text.specs.declared.limits.Most.{Most}
 use Rattle.mintc_text.specs.declared.refusals.Stop.{Stop}
 use Rattle.mintc_text.specs.declared.refusals.Stop.TheVariants as stop
@@ -17,26 +17,13 @@ use Rattle.mintc_flatten_hierarchy.specs.Shape.{CellTable}
 use Rattle.mintc_senses_expressions.specs.declared.transitions.Transitions.{Transitions}
 use Rattle.mintc_edges.specs.Numbers.{sense_of}
 use Rattle.mintc_edges.specs.Apart.{IsEdgeDesign, IsEdgeRefusal}
+use Rattle.mintc_build.proofs.SharedStopLaws.{StopsAt-mono}
 use Rattle.mintcx_clock_cells.specs.Clocks.{IsUnfit}
 use Rattle.mintcx_clock_cells.specs.declared.unfit.Unfit.{Unfit}
 use Rattle.mintcx_clock_cells.specs.declared.unfit.Unfit.TheVariants as unfit
 use Rattle.mintcx_edges.specs.EdgeFiles.{SensedText, AreReadApart, IsEdgeDesignOver, IsEdgeRefusalOver, IsEdgeLibertyRefusal, of_cells, of_hierarchy, of_design}
 use Rattle.mintcx_edges.specs.Halts.{IsEdgeHalt, halt_of, unfit_halt}
 use Rattle.mintcx_edges.specs.Seen.{IsReadDesign, IsReadRefusal}
-
--- What is said of each refusal is said where a call stops.
-pub StopsAt-mono : {P Q : Refusal → Type 0} (s : Stop) → ((r : Refusal) → P r → Q r) → StopsAt P s → StopsAt Q s
-StopsAt-mono (stop.Refused r) f h = f r h
-StopsAt-mono stop.OutOfMemory f h = tt
-
--- the two sides of what is said of a value and of a stop
-pub if_ok : {A : Type 0} (V W : A → Type 0) (P : Refusal → Type 0) (x : Result A Stop) → ((a : A) → V a → W a) → MatchResult x V (StopsAt P) → IfOk x W
-if_ok V W P (Ok a) f h = f a h
-if_ok V W P (Err s) f h = tt
-
-pub if_err : {A : Type 0} (V : A → Type 0) (P Q : Refusal → Type 0) (x : Result A Stop) → ((r : Refusal) → P r → Q r) → MatchResult x V (StopsAt P) → IfErr x (StopsAt Q)
-if_err V P Q (Ok a) f h = tt
-if_err V P Q (Err s) f h = StopsAt-mono s f h
 
 -- what stops a call halts the one above it
 pub halted : {P : Refusal → Type 0} (most : Most) (v d l : List ℕ) (gates : List (List ℕ)) (k : List ℕ) (s : Stop) → ((r : Refusal) → P r → IsEdgeLibertyRefusal most v d l gates k r) → StopsAt P s →

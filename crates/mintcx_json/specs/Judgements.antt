@@ -7,8 +7,9 @@ use Rattle.mintc_timing.specs.declared.violation.Broken.{Broken}
 use Rattle.mintc_timing.specs.declared.violation.Broken.TheVariants as broken
 use Rattle.mintc_timing.specs.declared.violation.Violation.{Violation}
 use Rattle.mintc_timing.specs.Departures.{departure}
-use Rattle.mintc_timing.specs.Design.{Design, Timing, element_at, element_count, pair_at, phase_of}
+use Rattle.mintc_timing.specs.Design.{Design, Timing, element_at, element_count, phase_of}
 use Rattle.mintcx_frame.specs.Names.{element_name, kind_word, phase_name}
+use Rattle.mintcx_judgements.specs.Sources.{from_of}
 use Rattle.mintcx_json.specs.Objects.{IsTextOf, array_of, head_fields, name, object_of, whole}
 use Rattle.mintcx_json.specs.Chains.{bound_fields}
 use Rattle.mintcx_json.specs.Clocks.{schedule_fields}
@@ -39,10 +40,6 @@ broken_word (broken.Bound n) = codes "bound"
 broken_word (broken.Loop ring) = codes "loop"
 broken_word (broken.Setup l) = codes "setup"
 broken_word (broken.Hold l) = codes "hold"
-
--- the element from which a pair's data comes
-abbrev pub from_of : Timing → ℕ → List ℕ
-from_of t n = element_name t.flat (pair_at t n).from
 
 -- What a constraint is of, by name: one phase or two, the elements round which data goes, or an element. A bound has no
 -- name.

@@ -5,8 +5,9 @@ ghost use Rattle.json.specs.Tree.{json_tokens};
 ghost use Rattle.mintc_timing.specs.Design.{element_count, phase_count};
 ghost use Rattle.mintc_timing.specs.Limits.{IsInRange};
 ghost use Rattle.mintcx_judgements.specs.Named.{AreNamed, IsNamed};
+ghost use Rattle.mintcx_judgements.specs.Sources.{from_of};
 ghost use Rattle.mintcx_json.specs.Judgements.{IsFailObject, IsPassObject, bound_of, broken_word, departing_value};
-ghost use Rattle.mintcx_json.specs.Judgements.{fail_value, from_of, names_of, pass_value, violation_value};
+ghost use Rattle.mintcx_json.specs.Judgements.{fail_value, names_of, pass_value, violation_value};
 ghost use Rattle.mintcx_json.specs.Objects.{array_of, name};
 ghost use Rattle.mintcx_json.specs.Pieces.{fields_tokens, values_tokens};
 
@@ -17,7 +18,7 @@ use crate::sheet::Sheet;
 use mintc_text::{Bytes, OutOfMemory};
 use mintc_timing::{Broken, Flat, System, Violation};
 use mintcx_frame::{View, phase_name};
-use mintcx_judgements::Judged;
+use mintcx_judgements::{Judged, from_of};
 use std::alloc::Global;
 
 /// The late and the early departures of elements, as numerators over one denominator.
@@ -100,15 +101,6 @@ fn broken_word(broken: &Broken) -> &'static str
         Broken::Setup { .. } => "setup",
         Broken::Hold { .. } => "hold",
     }
-}
-
-/// The element from which a pair's data comes.
-fn from_of(system: &System, pair: u32) -> &[u8]
-    requires { pair < length system.now.pairs }
-    ensures { result.now ≡ from_of system.now pair }
-{
-    let from = system.pair(pair as usize).from;
-    system.element(from).name.bytes()
 }
 
 /// Writes two names, as items of an array.

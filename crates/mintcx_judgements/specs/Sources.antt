@@ -7,11 +7,16 @@ use Rattle.mintc_timing.specs.declared.clocking.Schedule.{Schedule}
 use Rattle.mintc_timing.specs.Design.{Design, Timing, element_at, element_count, phase_of, pair_at}
 use Rattle.mintc_timing.specs.Clocking.{start_of, end_of, crosses_of}
 use Rattle.mintc_timing.specs.Departures.{departure}
+use Rattle.mintcx_frame.specs.Names.{element_name}
 use Rattle.mintcx_judgements.specs.declared.causes.Sought.{Sought}
 use Rattle.mintcx_judgements.specs.declared.causes.Sought.TheVariants.{Last, First}
 
 -- All times are in femtoseconds times the schedule's denominator. Pairs go by their numbers. A departure is of each
 -- element, counted from the start of its phase.
+
+-- the name of the element from which a pair's data comes
+abbrev pub from_of : Timing → ℕ → List ℕ
+from_of t n = element_name t.flat (pair_at t n).from
 
 -- when data leaves the first element of a pair, counted from time 0
 abbrev pub leaving : Timing → Schedule → List ℤ → ℕ → ℤ

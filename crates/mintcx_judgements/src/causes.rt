@@ -2,6 +2,7 @@
 ghost use Rattle.std.specs.Prelude.{◌≡◌, ◌<◌, neg_ℤ, length, slice_index_or, slice_set, None, IfOk, IfSome};
 ghost use Rattle.std.specs.List.{range_with_len};
 ghost use Rattle.mintc_timing.specs.Design.{element_count, pair_at};
+ghost use Rattle.mintc_timing.specs.Limits.{IsDesign};
 ghost use Rattle.mintcx_judgements.specs.Shown.{IsComing};
 ghost use Rattle.mintcx_judgements.specs.Sources.{AreGreatest, greater_by, number_by};
 
@@ -60,9 +61,10 @@ pub(crate) fn causes(
     sought: Sought,
     departures: &[i64],
 ) -> Result<Vec<Option<usize>>, OutOfMemory>
-    ensures { IfOk result (λ found. AreGreatest told.now.system.now
+    ensures found { IfOk result (λ found. AreGreatest told.now.system.now
         (number_by sought told.now.system.now told.now.schedule.now departures.now)
         (length told.now.system.now.pairs) found.items) }
+    ensures design { IsDesign told.now.system.now.flat }
 {
     let mut found = vec![in alloc; None; told.flat().elements().len()]?;
     for number in 0..told.system.pairs().len() {

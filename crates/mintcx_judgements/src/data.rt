@@ -278,10 +278,9 @@ fn given(told: &Told<'_>, pair: usize) -> i128
     ensures range { IsComing result }
 {
     let joined = told.system.pair(pair);
-    let _flat = told.flat();
     let from = told.element(joined.from).phase;
     let to = told.element(joined.to).phase;
-    -i128::from(shift(told.schedule, from, to))
+    -i128::from(shift(told.schedule(), from, to))
 }
 
 /// Writes a pair of a loop: how long its data takes, and how long it has.

@@ -2,7 +2,7 @@
 ghost use Rattle.std.specs.Prelude.{◌≡◌, length, IfOk};
 ghost use Rattle.mintc_fraction.specs.Ratio.{IsModest, over};
 ghost use Rattle.mintc_timing.specs.Design.{phase_count};
-ghost use Rattle.mintc_timing.specs.Limits.{IsInRange};
+ghost use Rattle.mintc_timing.specs.Limits.{IsDesign, IsInRange};
 ghost use Rattle.mintcx_judgements.specs.Sources.{AreGreatest, number_by};
 ghost use Rattle.mintcx_judgements.specs.declared.causes.Sought.TheVariants.{First, Last};
 
@@ -86,6 +86,7 @@ pub fn causes_of<'a>(
     ensures unit { IfOk result (λ causes. causes.told.unit ≡ unit) }
     ensures late { IfOk result (λ causes. causes.late.now ≡ judged.now.late.now) }
     ensures early { IfOk result (λ causes. causes.early.now ≡ judged.now.early.now) }
+    ensures design { IsDesign judged.now.system.now.flat }
 {
     let told = Told {
         system: judged.system,

@@ -31,5 +31,5 @@ pub use ranking::{Place, ranked};
 pub use rooms::{by_room, hold_room, setup_room};
 pub use rules::put_rule;
 pub use shown::{put_measured, put_timed};
-pub use sources::{departure, setup};
+pub use sources::{departure, from_of, setup};
 pub use told::Told;

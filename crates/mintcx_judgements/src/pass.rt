@@ -1,7 +1,7 @@
 //! The text of a pass.
 ghost use Rattle.std.specs.Prelude.{◌≡◌, ◌<◌, ℕ, ℤ, length, All, IfOk, IfSome};
 ghost use Rattle.mintc_timing.specs.Design.{element_count, phase_count};
-ghost use Rattle.mintc_timing.specs.Limits.{IsInRange};
+ghost use Rattle.mintc_timing.specs.Limits.{IsDesign, IsInRange};
 ghost use Rattle.mintcx_judgements.specs.Passes.{IsPassText, element_row, room_cell, room_columns, room_head};
 ghost use Rattle.mintcx_judgements.specs.Passes.{rooms_grid};
 ghost use Rattle.mintcx_judgements.specs.Shown.{IsLong};
@@ -72,11 +72,11 @@ fn element_row(alloc: Global, causes: &Causes<'_>, element: u32) -> Result<Names
 
 /// The table of the rooms of these elements.
 fn rooms_table(alloc: Global, causes: &Causes<'_>, places: &[Place]) -> Result<Table, OutOfMemory>
-    requires { All (λ (place : ℕ × ℤ × ℕ). place.2 < element_count causes.now.told.system.now.flat) places.now }
+    requires inside { All (λ (place : ℕ × ℤ × ℕ). place.2 < element_count causes.now.told.system.now.flat) places.now }
+    requires design { IsDesign causes.now.told.system.now.flat }
     ensures { IfOk result (λ table. table ≡ rooms_grid causes.now.told.system.now causes.now.told.schedule.now
         causes.now.late.now causes.now.early.now causes.now.told.unit places.now) }
 {
-    let _flat = causes.told.flat();
     let mut table = Table::new(alloc, room_columns(alloc)?);
     table.push(room_head(alloc)?)?;
     for place in places {

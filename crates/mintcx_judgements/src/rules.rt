@@ -258,12 +258,12 @@ fn put_bound(lines: &mut Lines, told: &Told<'_>, index: u32, amount: i64) -> Res
         ++ text_of (bound_lines told.now.system.now.flat told.now.schedule.now told.now.unit index
         (slice_index_or told.now.system.now.flat.bounds index no_bound) amount)) }
 {
-    let _flat = told.flat();
+    let bound = told.bound(index);
     lines.put(b"  bound  bound ")?;
     put_number(lines, u64::from(index + 1))?;
     put_measured(lines, told, b" is missed by ", i128::from(amount))?;
     lines.put(b"\n")?;
-    put_asked(lines, told, told.bound(index))
+    put_asked(lines, told, bound)
 }
 
 /// Writes a rule of the clock or a bound that is broken, by how much, and with which numbers: nothing of a loop, a

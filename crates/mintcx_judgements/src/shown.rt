@@ -15,8 +15,7 @@ pub(crate) fn fraction(told: &Told<'_>, time: i128) -> Fraction
     ensures value { result ≡ over time told.now.schedule.now.den }
     ensures modest { IsModest result }
 {
-    let _flat = told.flat();
-    Fraction::new(time, i128::from(told.schedule.den))
+    Fraction::new(time, i128::from(told.schedule().den))
 }
 
 /// Writes words, and behind them a time without its unit.

@@ -1,15 +1,25 @@
-//! When data leaves, comes and is wanted, in femtoseconds times the schedule's denominator.
+//! From where data comes, and when it leaves, comes and is wanted, in femtoseconds times the schedule's denominator.
 ghost use Rattle.std.specs.Prelude.{◌≡◌, ◌<◌, ◌*ℤ◌, length};
 ghost use Rattle.mintc_timing.specs.Clocking.{start_of, width_of};
 ghost use Rattle.mintc_timing.specs.Departures.{departure};
 ghost use Rattle.mintc_timing.specs.Design.{element_count, pair_at, phase_count};
 ghost use Rattle.mintc_timing.specs.Limits.{IsDelay, IsModest, IsNumerator, IsPhase, IsSpan};
 ghost use Rattle.mintcx_judgements.specs.Shown.{IsComing, IsEdge, IsLeaving, IsTerm};
-ghost use Rattle.mintcx_judgements.specs.Sources.{coming_early, coming_late, edge_of, hold_of, leaving, longest};
-ghost use Rattle.mintcx_judgements.specs.Sources.{setup_of, shortest, there, turning};
+ghost use Rattle.mintcx_judgements.specs.Sources.{coming_early, coming_late, edge_of, from_of, hold_of, leaving};
+ghost use Rattle.mintcx_judgements.specs.Sources.{longest, setup_of, shortest, there, turning};
 
 use crate::told::Told;
+use mintc_timing::System;
 use mintc_timing_links::times_denominator;
+
+/// The name of the element from which a pair's data comes.
+pub fn from_of(system: &System, pair: u32) -> &[u8]
+    requires { pair < length system.now.pairs }
+    ensures { result.now ≡ from_of system.now pair }
+{
+    let from = system.pair(pair as usize).from;
+    system.element(from).name.bytes()
+}
 
 /// When a phase starts.
 pub(crate) fn start(told: &Told<'_>, phase: u32) -> i128
@@ -17,8 +27,7 @@ pub(crate) fn start(told: &Told<'_>, phase: u32) -> i128
     ensures value { result ≡ start_of told.now.schedule.now phase }
     ensures range { IsNumerator result }
 {
-    let _flat = told.flat();
-    i128::from(told.schedule.starts.items()[phase as usize - 1])
+    i128::from(told.schedule().starts.items()[phase as usize - 1])
 }
 
 /// How wide a phase is.
@@ -27,8 +36,7 @@ pub(crate) fn width(told: &Told<'_>, phase: u32) -> i128
     ensures value { result ≡ width_of told.now.schedule.now phase }
     ensures range { IsNumerator result }
 {
-    let _flat = told.flat();
-    i128::from(told.schedule.widths.items()[phase as usize - 1])
+    i128::from(told.schedule().widths.items()[phase as usize - 1])
 }
 
 /// The cycle time.
@@ -36,8 +44,7 @@ pub(crate) fn cycle(told: &Told<'_>) -> i128
     ensures value { result ≡ told.now.schedule.now.cycle }
     ensures range { IsNumerator result }
 {
-    let _flat = told.flat();
-    i128::from(told.schedule.cycle)
+    i128::from(told.schedule().cycle)
 }
 
 /// A span of femtoseconds times the denominator.
@@ -46,8 +53,7 @@ pub(crate) fn scaled(told: &Told<'_>, span: i64) -> i128
     ensures value { result ≡ span *ℤ told.now.schedule.now.den }
     ensures range { IsModest result }
 {
-    let _flat = told.flat();
-    i128::from(times_denominator(span, told.schedule.den))
+    i128::from(times_denominator(span, told.schedule().den))
 }
 
 /// The departure of an element.

@@ -31,6 +31,15 @@ impl<'a> Told<'a> {
         self.system.flat()
     }
 
+    /// The schedule.
+    pub fn schedule(&self) -> &'a Schedule
+        ensures value { result.now ≡ self.now.schedule.now }
+        ensures phases { length result.now.starts ≡ phase_count self.now.system.now.flat }
+        ensures in_range { IsInRange result.now }
+    {
+        self.schedule
+    }
+
     /// An element.
     pub fn element(&self, number: u32) -> &'a Element
         requires { number < element_count self.now.system.now.flat }
@@ -61,6 +70,7 @@ impl<'a> Told<'a> {
         requires { number < length self.now.system.now.flat.bounds }
         ensures value { result.now ≡ slice_index_or self.now.system.now.flat.bounds number no_bound }
         ensures kept { IsBound (phase_count self.now.system.now.flat) result.now }
+        ensures design { IsDesign self.now.system.now.flat }
     {
         &self.system.flat().bounds()[number as usize]
     }

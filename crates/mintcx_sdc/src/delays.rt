@@ -1,5 +1,5 @@
 //! The delays of listed ports: from the start of an input's phase, and before the end of an output's.
-ghost use Rattle.std.specs.Prelude.{◌≡◌, ◌<◌, ◌-◌, ◌++◌, neg_ℤ, length, OnOk};
+ghost use Rattle.std.specs.Prelude.{◌≡◌, ◌<◌, ◌≤◌, ◌-◌, ◌++◌, neg_ℤ, length, OnOk};
 ghost use Rattle.mintc_text.specs.Lines.{ended, text_of};
 ghost use Rattle.mintc_timing.specs.Limits.{IsGap};
 ghost use Rattle.mintc_clock.specs.Laws.{KeepsListed};
@@ -76,22 +76,19 @@ fn put_at(lines: &mut Lines, kind: &[u8], time: i64, port: &[u8]) -> Result<(), 
 }
 
 /// The place of the phase of a listed port.
-fn place_of(phases: &[PhaseDef], listed: &Listed) -> usize
-    requires { KeepsListed (length phases.now) listed.now }
-    ensures value { result ≡ listed.now.phase - 1 }
-    ensures inside { result < length phases.now }
+fn place_of(listed: &Listed) -> usize
+    requires { 1 ≤ listed.now.phase }
+    ensures { result ≡ listed.now.phase - 1 }
 {
-    let _all = phases.len();
     listed.phase as usize - 1
 }
 
 /// The hold of an output with its sign turned, in femtoseconds.
-fn turned_hold(phases: &[PhaseDef], output: &Listed) -> i64
-    requires { KeepsListed (length phases.now) output.now }
+fn turned_hold(output: &Listed) -> i64
+    requires { IsGap output.now.hold }
     ensures value { result ≡ neg_ℤ output.now.hold }
     ensures range { IsGap result }
 {
-    let _all = phases.len();
     -output.hold
 }
 
@@ -107,7 +104,7 @@ fn put_delay(
     requires { KeepsListed (length phases.now) listed.now }
     ensures { OnOk result (lines.new ≡ lines.old ++ ended (delay_line phases.now way listed.now kind.now time)) }
 {
-    put_from(lines, phases, way, place_of(phases, listed))?;
+    put_from(lines, phases, way, place_of(listed))?;
     put_at(lines, kind, time, listed.port.bytes())?;
     lines.put(b"\n")
 }
@@ -133,7 +130,7 @@ fn put_hold(lines: &mut Lines, phases: &[PhaseDef], output: &Listed) -> Result<(
     if !output.has_hold {
         return Ok(());
     }
-    let hold = turned_hold(phases, output);
+    let hold = turned_hold(output);
     put_delay(lines, phases, Way::Out, output, b" -min ", hold)
 }
 

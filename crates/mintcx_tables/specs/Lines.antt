@@ -40,16 +40,19 @@ arc_line n x = words (codes "arc" ∷ bit_word (codes "q") n x.from ∷ bit_word
 abbrev pub bound_line : Bound → List ℕ
 bound_line x = words (codes "bound" ∷ point_word x.from ∷ point_word x.to ∷ numeral_of x.gap ∷ number x.cycles ∷ [])
 
--- the lines of phases, elements, arcs and bounds, each after their number
+-- the lines of phases, after how many they are
 abbrev pub phase_lines : List (List ℕ) → List (List ℕ)
 phase_lines names = count_line (codes "phases") (length names) ∷ map phase_line names
 
+-- the lines of elements, after how many they are
 abbrev pub element_lines : List Element → List (List ℕ)
 element_lines es = count_line (codes "elements") (length es) ∷ map element_line es
 
+-- the lines of arcs of a design of n elements, after how many they are
 abbrev pub arc_lines : ℕ → List TimingArc → List (List ℕ)
 arc_lines n xs = count_line (codes "arcs") (length xs) ∷ map (arc_line n) xs
 
+-- the lines of bounds, after how many they are
 abbrev pub bound_lines : List Bound → List (List ℕ)
 bound_lines xs = count_line (codes "bounds") (length xs) ∷ map bound_line xs
 

@@ -1,11 +1,12 @@
 //! Names that no table can have.
-ghost use Rattle.std.specs.Prelude.{[], All, MatchBool, MatchOption};
+ghost use Rattle.std.specs.Prelude.{[], All, MatchOption};
 ghost use Rattle.mintc_timing.specs.Design.{no_element};
 ghost use Rattle.mintc_timing_text.specs.Fields.{IsName};
 ghost use Rattle.mintcx_tables.specs.Obstacles.{HasNames, IsFirstWithout, IsNamed, IsObstacle};
 
 use mintc_text::Name;
 use mintc_timing::{Element, Flat};
+use mintc_timing_text::is_name;
 
 /// What of a design no table can say: the first name that isn't 1 to 1,000 bytes from 33 to 126, of a phase or else of
 /// an element. Both are counted from 0.
@@ -13,21 +14,6 @@ use mintc_timing::{Element, Flat};
 pub enum Obstacle {
     PhaseName { phase: usize },
     ElementName { element: usize },
-}
-
-/// Whether a table can have a name: it is 1 to 1,000 bytes from 33 to 126.
-fn is_name(word: &[u8]) -> bool
-    ensures { MatchBool result (IsName word.now) (IsName word.now → ⊥) }
-{
-    if word.is_empty() || word.len() > 1_000 {
-        return false;
-    }
-    for byte in word {
-        if *byte < b'!' || *byte > b'~' {
-            return false;
-        }
-    }
-    true
 }
 
 /// The first phase whose name no table can have.

@@ -578,18 +578,17 @@ pub fn call_of(
     let beside = beside_of(task);
     let Sources { files, gates } = design_files(alloc, for_corners, design)?;
     let files = with_own(files, beside.own)?;
-    if is_fitting(command, files.items().len()) {
-        Ok(Call {
-            command,
-            aspect,
-            of_library,
-            gates,
-            clamp,
-            apart,
-            files,
-            certificate: beside.certificate,
-        })
-    } else {
-        Err(NoCall::Missing(Gap::Misfit))
+    if !is_fitting(command, files.items().len()) {
+        return Err(NoCall::Missing(Gap::Misfit));
     }
+    Ok(Call {
+        command,
+        aspect,
+        of_library,
+        gates,
+        clamp,
+        apart,
+        files,
+        certificate: beside.certificate,
+    })
 }

@@ -17,10 +17,10 @@ use crate::judging::Judging;
 use crate::ring::put_ring;
 use crate::rules::put_rules;
 use crate::sums::{delay, put_stuck, put_tight};
-use mintc_certificate::{Certificate, ChainSums, Member, sums_of};
+use mintc_certificate::{Certificate, ChainSums, Departures, Member, Members, sums_of};
 use mintc_checker::Verdict;
 use mintc_text::{Bytes, Lines, OutOfMemory};
-use mintc_timing::{System, Violation};
+use mintc_timing::{Schedule, System, Violation};
 use mintcx_frame::View;
 use mintcx_judgements::Told;
 use std::alloc::Global;
@@ -97,6 +97,56 @@ fn put_never_reason(
     put_stuck(lines, view.unit_for(&delay(&sums)), &sums)
 }
 
+/// What a certificate with a schedule says.
+#[derive(Clone, Copy)]
+struct Least<'a> {
+    schedule: &'a Schedule,
+    departures: &'a Departures,
+    chain: &'a Members,
+}
+
+/// Writes why a certificate with a schedule fails the test of a number.
+fn put_least(
+    alloc: Global,
+    lines: &mut Lines,
+    examined: &Examined<'_>,
+    least: &Least<'_>,
+    number: u32,
+    view: &View,
+) -> Result<(), OutOfMemory>
+    requires is_least { examined.now.certificate.now
+        ≡ Certificate.Least least.now.schedule.now least.now.departures.now least.now.chain.now }
+    requires in_range { IsCertificateInRange examined.now.certificate.now }
+    requires fails { FailsFirst examined.now.system.now examined.now.certificate.now (test_of number) }
+    requires named { AreNamed examined.now.system.now examined.now.violations.now }
+    ensures { OnOk result (IsWritten (IsReason examined.now.system.now examined.now.certificate.now
+        (chain_unit examined.now.system.now examined.now.certificate.now view.now) examined.now.violations.now
+        (test_of number)) lines.old lines.new) }
+{
+    let system = examined.system;
+    let schedule = least.schedule;
+    let departures = least.departures.items();
+    if number == 1 {
+        return put_counts(lines, system.flat(), schedule, departures);
+    }
+    let unit = view.unit_for(&cycle_time(schedule));
+    let told = Told {
+        system,
+        schedule,
+        unit,
+    };
+    let judging = Judging { told, departures };
+    let violations = examined.violations;
+    put_least_reason(
+        alloc,
+        lines,
+        &judging,
+        least.chain.items(),
+        violations,
+        number,
+    )
+}
+
 /// Writes why a certificate fails the test of a number.
 fn put_reason(
     alloc: Global,
@@ -112,41 +162,22 @@ fn put_reason(
         (chain_unit examined.now.system.now examined.now.certificate.now view.now) examined.now.violations.now
         (test_of number)) lines.old lines.new) }
 {
-    let system = examined.system;
     match examined.certificate {
         Certificate::Least {
             schedule,
             departures,
             chain,
         } => {
-            if number == 1 {
-                return put_counts(lines, system.flat(), schedule, departures.items());
-            }
-            let unit = view.unit_for(&cycle_time(schedule));
-            let judging = Judging {
-                told: Told {
-                    system,
-                    schedule,
-                    unit,
-                },
-                departures: departures.items(),
+            let least = Least {
+                schedule,
+                departures,
+                chain,
             };
-            put_least_reason(
-                alloc,
-                lines,
-                &judging,
-                chain.items(),
-                examined.violations,
-                number,
-            )
+            put_least(alloc, lines, examined, &least, number, view)
         }
-        Certificate::Never { chain } => put_never_reason(
-            lines,
-            system,
-            chain.items(),
-            number,
-            view,
-        ),
+        Certificate::Never { chain } => {
+            put_never_reason(lines, examined.system, chain.items(), number, view)
+        }
     }
 }
 

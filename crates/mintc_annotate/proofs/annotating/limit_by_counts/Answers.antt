@@ -1,6 +1,6 @@
 use Rattle.std.proofs.Common.{◌∙◌, ◌+◌, length, ap, arith}
 use Rattle.mintc_annotate.specs.Counts.{leaf_arc_count}
-use Rattle.mintc_annotate.proofs.CountLaws.{limits_alike}
+use Rattle.mintc_annotate.proofs.SharedCountLaws.{limits_alike}
 use Rattle.mintc_annotate.proofs.annotating.limit_by_counts.Goals as goal
 
 pub returns-clause-refusal : goal.returns-clause-refusal

@@ -2,8 +2,9 @@ use Rattle.std.proofs.Common.{◌≡◌, Some, length, refl}
 use Rattle.std.proofs.lemmas.Result.{err_from_is_err_and}
 use Rattle.mintc_annotate_resolve.specs.Resolution.{resolved, refusal_of, first_refusal}
 use Rattle.mintc_annotate_resolve.proofs.SharedInstanceLaws.{at_top}
-use Rattle.mintc_annotate_delays.proofs.GatherLaws.{stops_more}
-use Rattle.mintc_annotate_delays.proofs.DelayLaws.{unrefused_more, refused_here, ranges_more}
+use Rattle.mintc_annotate_delays.proofs.SharedLeafLaws.{stops_more}
+use Rattle.mintc_annotate_delays.proofs.DelayLaws.{ranges_more}
+use Rattle.mintc_annotate_delays.proofs.SharedDelayLaws.{unrefused_more, refused_here}
 use Rattle.mintc_annotate_delays.proofs.gathering.apply_all.Goals as goal
 
 pub loop-delay-init : goal.loop-delay-init

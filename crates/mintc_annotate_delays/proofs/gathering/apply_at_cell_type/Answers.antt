@@ -3,9 +3,10 @@ use Rattle.std.specs.Result.{OnOk, IfErr}
 use Rattle.mintc_text.specs.Stops.{StopsAt}
 use Rattle.mintc_cells.specs.Entries.{number_of}
 use Rattle.mintc_annotate_resolve.specs.Resolution.{Resolved, of_each, of_every, refusal_of}
-use Rattle.mintc_annotate_delays.specs.Gathered.{IsTakenIn, leaves_with}
+use Rattle.mintc_annotate_delays.specs.Groups.{leaves_with}
+use Rattle.mintc_annotate_delays.specs.Gathered.{IsTakenIn}
 use Rattle.mintc_annotate_delays.proofs.GatherLaws.{taken_nothing}
-use Rattle.mintc_annotate_delays.proofs.GroupLaws.{found_cell, group_inside, every_found, every_missing}
+use Rattle.mintc_annotate_delays.proofs.SharedGroupLaws.{found_cell, group_inside, every_found, every_missing}
 use Rattle.mintc_annotate_delays.proofs.gathering.apply_at_cell_type.Goals as goal
 
 pub apply_at_leaves-requires : goal.apply_at_leaves-requires

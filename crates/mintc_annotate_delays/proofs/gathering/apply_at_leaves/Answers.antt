@@ -3,7 +3,8 @@ use Rattle.std.proofs.lemmas.Result.{err_from_is_err_and}
 use Rattle.mintc_annotate_resolve.specs.Resolution.{Resolved, of_each, of_leaf, refusal_of}
 use Rattle.mintc_annotate_resolve.specs.Targets.{resolved_of}
 use Rattle.mintc_annotate_delays.specs.Gathered.{IsTakenIn}
-use Rattle.mintc_annotate_delays.proofs.GatherLaws.{has_place, taken_both, each_more, each_refused, stops_more}
+use Rattle.mintc_annotate_delays.proofs.GatherLaws.{has_place, taken_both}
+use Rattle.mintc_annotate_delays.proofs.SharedLeafLaws.{each_more, each_refused, stops_more}
 use Rattle.mintc_annotate_delays.proofs.gathering.apply_at_leaves.Goals as goal
 
 pub apply_resolved-requires : goal.apply_resolved-requires

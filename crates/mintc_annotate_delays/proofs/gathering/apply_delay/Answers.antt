@@ -2,10 +2,11 @@ use Rattle.std.proofs.Common.{◌≡◌, Some, sym, ap, ◌∙◌, subst}
 use Rattle.std.proofs.lemmas.Result.{err_from_is_err_and}
 use Rattle.mintc_annotate_resolve.specs.Resolution.{Resolved, of_instance, leaf_called, resolved, refusal_of}
 use Rattle.mintc_annotate_resolve.specs.Instances.{IsAt}
-use Rattle.mintc_annotate_delays.specs.Gathered.{IsTakenIn, path_of}
+use Rattle.mintc_annotate_delays.specs.Groups.{path_of}
+use Rattle.mintc_annotate_delays.specs.Gathered.{IsTakenIn}
 use Rattle.mintc_annotate_resolve.proofs.SharedPathLaws.{Path}
-use Rattle.mintc_annotate_delays.proofs.GatherLaws.{stops_more}
-use Rattle.mintc_annotate_delays.proofs.DelayLaws.{path_resolved}
+use Rattle.mintc_annotate_delays.proofs.SharedLeafLaws.{stops_more}
+use Rattle.mintc_annotate_delays.proofs.SharedDelayLaws.{path_resolved}
 use Rattle.mintc_annotate_delays.proofs.gathering.apply_delay.Goals as goal
 
 pub returns-in_err-apply_at_instance-in-Some-clause-err : goal.returns-in_err-apply_at_instance-in-Some-clause-err

@@ -5,7 +5,7 @@ use Rattle.mintc_flatten_hierarchy.specs.Refusals.{IsHierarchy, IsRefusal}
 use Rattle.mintc_annotate.specs.Made.{IsAnnotated, IsAnnotateRefusal}
 use Rattle.mintc_timing.specs.Limits.{IsWithinLimits}
 use Rattle.mintc_build.specs.FilesDesign.{cell_text, IsDesignOver, IsRefusalOver, AreRead, IsHierarchyOf, of_delays, of_cells, of_clock, of_hierarchy, of_design}
-use Rattle.mintc_build.proofs.Stopping.{StopsAt-mono, if_ok, if_err}
+use Rattle.mintc_build.proofs.SharedStopLaws.{StopsAt-mono, if_ok, if_err}
 use Rattle.mintc_build.proofs.files.design_of_texts.Goals as goal
 
 pub returns-in_err-said-clause-stop : goal.returns-in_err-said-clause-stop

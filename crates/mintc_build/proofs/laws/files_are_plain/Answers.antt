@@ -1,10 +1,11 @@
 use Rattle.mintc_build.specs.FilesDesign.{described_by, library_by}
-use Rattle.mintc_build.proofs.FilesLaws.{AreFilesLaws, described_plain, library_plain, plain_lem}
+use Rattle.mintc_build.proofs.FilesLaws.{AreLaws, plain_lem}
+use Rattle.mintc_build.proofs.SharedFilesLaws.{described_plain, library_plain}
 use Rattle.mintc_build.proofs.laws.files_are_plain.Goals as goal
 
 pub returns-clause-described : goal.returns-clause-described
 returns-clause-described c =
-    let law : AreFilesLaws = record {
+    let law : AreLaws = record {
       one_netlist = c.texts_are_plain.ensures.value;
       no_fault = c.texts_are_plain.ensures.no_fault;
       one_fault = c.texts_are_plain.ensures.fault;
@@ -19,7 +20,7 @@ returns-clause-described c =
 
 pub returns-clause-library : goal.returns-clause-library
 returns-clause-library c =
-    let law : AreFilesLaws = record {
+    let law : AreLaws = record {
       one_netlist = c.texts_are_plain.ensures.value;
       no_fault = c.texts_are_plain.ensures.no_fault;
       one_fault = c.texts_are_plain.ensures.fault;

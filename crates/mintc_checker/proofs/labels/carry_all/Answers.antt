@@ -5,18 +5,20 @@ use Rattle.mintc_timing.specs.Design.{no_arc}
 use Rattle.mintc_timing.specs.Limits.{IsArc}
 use Rattle.mintc_timing.specs.Paths.{arc_at}
 use Rattle.mintc_timing.proofs.SharedOrdered.{inside}
-use Rattle.mintc_checker.specs.Course.{no_step, IsStep}
+use Rattle.mintc_checker.specs.Course.{bare, no_step, IsStep}
 use Rattle.mintc_checker.specs.Labels.{IsAlong}
 use Rattle.mintc_checker.proofs.Placed.{carried_placed, step_lanes}
+use Rattle.mintc_checker.proofs.Placing.{length-moved, moved_at}
 use Rattle.mintc_checker.proofs.labels.carry_all.Goals as goal
 use Rattle.mintc_checker.proofs.labels.carry_all.Goals.{After-index}
 
 -- the step that the loop reads
-step_is : (c : After-index) → IsStep c.args.course.now.places.of_bits.items (arc_at c.args.departing.now.flat.now.arcs (get_or c.args.order.now c.loop-place.place 0)) c.index.result.now
+step_is : (c : After-index) → IsStep c.args.course.now.places.of_bits.items (bare (arc_at c.args.departing.now.flat.now.arcs (get_or c.args.order.now c.loop-place.place 0))) c.index.result.now
 step_is c =
     let steps = c.requires.course.steps in
     let low : c.loop-place.place < length c.args.order.now = grind (arith, common_steps) in
-    rw (c.index.ensures ∙ get_or_default c.args.course.now.steps.items c.loop-place.place c.index.result.now no_step (omega (arith, steps.count))) (steps.each c.loop-place.place low)
+    let arcs = c.args.departing.now.flat.now.arcs in
+    rw (c.index.ensures ∙ get_or_default c.args.course.now.steps.items c.loop-place.place c.index.result.now no_step (omega (arith, steps.count, length-moved arcs c.args.order.now)), ← moved_at arcs c.args.order.now c.loop-place.place low) (steps.each c.loop-place.place low)
 
 arc_in : (c : After-index) → IsArc (length c.args.departing.now.flat.now.elements) (length c.args.departing.now.flat.now.inner) (arc_at c.args.departing.now.flat.now.arcs (get_or c.args.order.now c.loop-place.place 0))
 arc_in c =

@@ -25,7 +25,7 @@ too_many-requires-clause-few c =
 pub returns-in-Some-clause-stop : goal.returns-in-Some-clause-stop
 returns-in-Some-clause-stop c =
     let given = AreGiven-all c.args.limits.now c.args.texts.now _ c.in_ok-systems.systems.items (delay_files c.args.texts.now) c.in_ok-systems.ensures.value in
-    let over = subst (λ (x : List Timing). AreTooMany c.args.limits.now x c.in-Some.refusal) c.as_slice.ensures.value c.in-Some.ensures in
+    let over = subst (λ (x : List Timing). AreTooMany c.args.limits.now x c.in-Some.refusal) c.as_slice.ensures.value c.in-Some.ensures.too_many in
     (c.in_ok-systems.systems.items, given, over)
 
 pub returns : goal.returns
@@ -33,9 +33,11 @@ returns c =
     let given = AreGiven-all c.args.limits.now c.args.texts.now _ c.in_ok-systems.systems.items (delay_files c.args.texts.now) c.in_ok-systems.ensures.value in
     let many = as_many_all c.args.limits.now c.args.texts.now c.args.count c.in_ok-systems.systems.items c.requires.count given in
     let some = c.requires.in_range.0 in
+    let within = subst (λ (x : List Timing). elements_together x ≤ c.args.limits.now.elements) c.as_slice.ensures.value c.in_default.ensures.too_many in
     record {
       given = given;
-      within = subst (λ (x : List Timing). elements_together x ≤ c.args.limits.now.elements) c.as_slice.ensures.value c.in_default.ensures;
+      within = within;
+      few = omega (arith, within, c.in_default.ensures.limit);
       count = many;
       alike = AreCorners-given c.args.limits.now c.corners_differ_in_numbers.ensures c.args.texts.now (drop 3 c.args.texts.now) c.in_ok-systems.systems.items (omega (arith, many, some)) given;
       stop = tt;

@@ -1,5 +1,4 @@
-use Rattle.std.proofs.Common.{◌≡◌, ◌∙◌, [], arith, sym}
-use Rattle.std.proofs.lemmas.List.{get_or_read}
+use Rattle.std.proofs.Common.{sym}
 use Rattle.std.proofs.lemmas.Result.{err_from_is_err_and}
 use Rattle.mintc_text.specs.Stops.{StopsAt}
 use Rattle.mintc_build.specs.FilesDesign.{IsFilesDesign, IsFilesRefusal}
@@ -11,31 +10,19 @@ use Rattle.mintc_command_answers.proofs.corners_answers.corner_system.Goals as g
 
 pub returns-in_err-flat-clause-stop : goal.returns-in_err-flat-clause-stop
 returns-in_err-flat-clause-stop c =
-    let all = c.requires.all in
-    let v : c.items.result.now ≡ file_at c.args.texts.now 0 = c.items.ensures ∙ get_or_read c.args.texts.now 0 c.index-texts-0.result (omega (arith, all)) c.index-texts-0.is [] in
-    let e : c.items-3.result.now ≡ file_at c.args.texts.now 1 = c.items-3.ensures ∙ get_or_read c.args.texts.now 1 c.index-texts-1.result (omega (arith, all)) c.index-texts-1.is [] in
-    let k : c.items-4.result.now ≡ file_at c.args.texts.now 2 = c.items-4.ensures ∙ get_or_read c.args.texts.now 2 c.index-texts-2.result (omega (arith, all)) c.index-texts-2.is [] in
     let own : StopsAt (IsFilesRefusal c.args.limits.now (file_at c.args.texts.now 0) c.args.delays.now (file_at c.args.texts.now 1) (file_at c.args.texts.now 2)) c.in_err-flat.field-0.0 =
-    rw (sym v, sym c.items-2.ensures, sym e, sym k) c.in_err-flat.ensures.stop in
+    rw (sym c.file_at.ensures.value, sym c.items.ensures, sym c.file_at-2.ensures.value, sym c.file_at-3.ensures.value) c.in_err-flat.ensures.stop in
     let p = err_from_is_err_and c.from_residual.result c.from_residual.ensures.1 in
     rw (p.1, p.2) (StopsAt-design c.args.limits.now Files (files_with c.args.texts.now c.args.delays.now) c.in_err-flat.field-0.0 own)
 
 pub returns-clause-value : goal.returns-clause-value
 returns-clause-value c =
-    let all = c.requires.all in
-    let v : c.items.result.now ≡ file_at c.args.texts.now 0 = c.items.ensures ∙ get_or_read c.args.texts.now 0 c.index-texts-0.result (omega (arith, all)) c.index-texts-0.is [] in
-    let e : c.items-3.result.now ≡ file_at c.args.texts.now 1 = c.items-3.ensures ∙ get_or_read c.args.texts.now 1 c.index-texts-1.result (omega (arith, all)) c.index-texts-1.is [] in
-    let k : c.items-4.result.now ≡ file_at c.args.texts.now 2 = c.items-4.ensures ∙ get_or_read c.args.texts.now 2 c.index-texts-2.result (omega (arith, all)) c.index-texts-2.is [] in
     let own : IsFilesDesign c.args.limits.now (file_at c.args.texts.now 0) c.args.delays.now (file_at c.args.texts.now 1) (file_at c.args.texts.now 2) c.in_ok-flat.flat =
-    rw (sym v, sym c.items-2.ensures, sym e, sym k) c.in_ok-flat.ensures.value in
+    rw (sym c.file_at.ensures.value, sym c.items.ensures, sym c.file_at-2.ensures.value, sym c.file_at-3.ensures.value) c.in_ok-flat.ensures.value in
     Gives-system c.args.limits.now Files (files_with c.args.texts.now c.args.delays.now) c.in_ok-flat.flat c.accepted_system.result own c.accepted_system.ensures.value
 
 pub returns-clause-stop : goal.returns-clause-stop
 returns-clause-stop c =
-    let all = c.requires.all in
-    let v : c.items.result.now ≡ file_at c.args.texts.now 0 = c.items.ensures ∙ get_or_read c.args.texts.now 0 c.index-texts-0.result (omega (arith, all)) c.index-texts-0.is [] in
-    let e : c.items-3.result.now ≡ file_at c.args.texts.now 1 = c.items-3.ensures ∙ get_or_read c.args.texts.now 1 c.index-texts-1.result (omega (arith, all)) c.index-texts-1.is [] in
-    let k : c.items-4.result.now ≡ file_at c.args.texts.now 2 = c.items-4.ensures ∙ get_or_read c.args.texts.now 2 c.index-texts-2.result (omega (arith, all)) c.index-texts-2.is [] in
     let own : IsFilesDesign c.args.limits.now (file_at c.args.texts.now 0) c.args.delays.now (file_at c.args.texts.now 1) (file_at c.args.texts.now 2) c.in_ok-flat.flat =
-    rw (sym v, sym c.items-2.ensures, sym e, sym k) c.in_ok-flat.ensures.value in
+    rw (sym c.file_at.ensures.value, sym c.items.ensures, sym c.file_at-2.ensures.value, sym c.file_at-3.ensures.value) c.in_ok-flat.ensures.value in
     Refuses-system c.args.limits.now Files (files_with c.args.texts.now c.args.delays.now) c.in_ok-flat.flat c.accepted_system.result own c.accepted_system.ensures.limits c.in_ok-flat.ensures.within c.accepted_system.ensures.stop

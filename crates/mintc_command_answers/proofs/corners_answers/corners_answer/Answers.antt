@@ -1,4 +1,5 @@
 use Rattle.std.proofs.Common.{◌≤◌, List, length, ap, sym, subst, arith}
+use Rattle.mintc_text.specs.declared.limits.TheConstants.{MOST_ELEMENTS}
 use Rattle.mintc_timing.specs.Design.{Timing}
 use Rattle.mintc_corners.specs.Joint.{AreCorners}
 use Rattle.mintc_command_answers.specs.Corners.{elements_together}
@@ -34,9 +35,7 @@ optimum_of-requires-clause-alike c = subst AreCorners (sym c.as_slice.ensures.va
 
 pub optimum_of-requires-clause-elements : goal.optimum_of-requires-clause-elements
 optimum_of-requires-clause-elements c =
-    let kept = c.most-most.ensures.kept in
-    let few = subst (λ (x : List Timing). elements_together x ≤ c.args.limits.now.elements) (sym c.as_slice.ensures.value) c.in-Ok.ensures.within in
-    omega (arith, few, kept.elements)
+    subst (λ (x : List Timing). elements_together x ≤ MOST_ELEMENTS) (sym c.as_slice.ensures.value) c.in-Ok.ensures.few
 
 pub returns-in-Ok-clause-value : goal.returns-in-Ok-clause-value
 returns-in-Ok-clause-value c =

@@ -10,12 +10,12 @@ use Rattle.mintc_departure.proofs.judging.loop_excess.Goals as goal
 
 few : (c : goal.After-late_delay-amount) → c.loop-pair.pair-index < MOST_ELEMENTS
 few c =
-    let pairs = few_pairs c.args.clocked.now.system.now c.args.pairs.now c.count-count.ensures.kept.timing.extremes.each c.requires.closed in
+    let pairs = few_pairs c.args.clocked.now.system.now c.args.pairs.now c.late_delay-amount.ensures.kept.timing.extremes.each c.requires.closed in
     omega arith
 
 travel : (c : goal.After-late_delay-amount) → IsTravel c.late_delay-amount.result
 travel c =
-    let kept = c.count-count.ensures.kept in
+    let kept = c.late_delay-amount.ensures.kept in
     let exists = c.requires.closed.exist c.loop-pair.pair-index 0 c.loop-pair-test.true in
     rw c.late_delay-amount.ensures.value (shifted_delay-within c.args.clocked.now.system.now c.args.clocked.now.schedule.now kept (get_or c.args.pairs.now c.loop-pair.pair-index 0) exists)
 

@@ -18,7 +18,7 @@ returns-in_ok-judge_elements-in-Settled-clause-violations c =
     let elements : List Violation = setup_checks t s late ++ hold_checks t s early in
     let clock = rw c.new-violations.ensures.items at c.in_ok-judge_clock.ensures in
     inr (
-      no_loop t s late settled.exact c.pairs-pairs.ensures.kept.extremes.each,
+      no_loop t s late settled.exact judged.fits.timing.extremes.each,
       (late, early, settled, judged.early, rw (append_assoc (clock_checks t s) (setup_checks t s late) (hold_checks t s early), failed-append (clock_checks t s) elements) (judged.violations ∙ ap (λ vs. vs ++ failed elements) clock)),
     )
 

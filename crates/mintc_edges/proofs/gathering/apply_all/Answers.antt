@@ -7,7 +7,8 @@ use Rattle.mintc_annotate_resolve.proofs.SharedInstanceLaws.{at_top}
 use Rattle.mintc_edges.specs.Claims.{HasClaims, claims}
 use Rattle.mintc_edges.specs.Numbers.{without_edges}
 use Rattle.mintc_edges.proofs.ClaimLaws.{no-claims, all-told}
-use Rattle.mintc_edges.proofs.TakenLaws.{unrefused_more, refused_here, told-more, stops_more}
+use Rattle.mintc_annotate_delays.proofs.SharedLeafLaws.{stops_more}
+use Rattle.mintc_edges.proofs.TakenLaws.{unrefused_more, refused_here, told-more}
 use Rattle.mintc_edges.proofs.gathering.apply_all.Goals as goal
 
 pub loop-delay-init : goal.loop-delay-init

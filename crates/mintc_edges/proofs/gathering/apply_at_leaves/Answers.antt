@@ -4,7 +4,8 @@ use Rattle.mintc_annotate_resolve.specs.Resolution.{Resolved, of_each, of_leaf, 
 use Rattle.mintc_annotate_resolve.specs.Targets.{resolved_of}
 use Rattle.mintc_edges.specs.Claims.{IsApt, IsTakenIn}
 use Rattle.mintc_edges.proofs.AptLaws.{apt-leaf}
-use Rattle.mintc_edges.proofs.TakenLaws.{taken-both, taken-nothing, each_more, each_refused, stops_more}
+use Rattle.mintc_annotate_delays.proofs.SharedLeafLaws.{each_more, each_refused, stops_more}
+use Rattle.mintc_edges.proofs.TakenLaws.{taken-both, taken-nothing}
 use Rattle.mintc_edges.proofs.gathering.apply_at_leaves.Goals as goal
 
 pub loop-leaf-init : goal.loop-leaf-init

@@ -3,7 +3,8 @@ use Rattle.std.specs.HashMap.{get}
 use Rattle.std.proofs.lemmas.Int.{to_z-of_z}
 use Rattle.mintc_edges.specs.declared.spreads.Spread.{Spread}
 use Rattle.mintc_edges.specs.Spreads.{no_spread, widened_along}
-use Rattle.mintc_edges.specs.Told.{same_key, path_in}
+use Rattle.mintc_annotate_delays.specs.Ranges.{same_key}
+use Rattle.mintc_edges.specs.Told.{path_in}
 use Rattle.mintc_edges.proofs.TableLaws.{at_key_is}
 use Rattle.mintc_edges.proofs.told.widen_path.Goals as goal
 

@@ -15,7 +15,7 @@ pub raise-requires : goal.raise-requires
 raise-requires c =
     let i : ℕ = c.loop-place.place in
     let low : i < length c.args.order.now = omega (arith, c.args.sequence.now.along.ok.0, c.requires.sequence.along.count) in
-    let kept = c.elements-elements.ensures.kept in
+    let kept = c.requires.design in
     let inside = row_in c.args.flat.now c.args.order.now c.requires.order kept c.args.sequence.now (length c.args.sums.now) c.requires.sequence c.requires.bits i low in
     let inside_to = row_to_in c.args.flat.now c.args.order.now c.requires.order kept c.args.sequence.now (length c.args.sums.now) c.requires.sequence c.requires.bits i low in
     rw (arc_is (goal.at.raise-requires c).After-index) record {
@@ -36,6 +36,6 @@ loop-place-preserved c =
     record { others = c.raise.ensures.others; kept = c.raise.ensures.kept; raised = c.raise.ensures.raised; limit = c.raise.ensures.limit } in
     record {
       count = c.raise.auto.sums ∙ c.loop-place.invariant.count;
-      carried = raised_along c.args.flat.now c.args.order.now c.requires.order c.elements-elements.ensures.kept c.args.sequence.now (length c.args.sums.now) c.requires.sequence c.requires.bits
+      carried = raised_along c.args.flat.now c.args.order.now c.requires.order c.requires.design c.args.sequence.now (length c.args.sums.now) c.requires.sequence c.requires.bits
           c.loop-place.sums c.raise.new.sums i low (rw (arc_is turn) at raised) c.loop-place.invariant.carried;
     }

@@ -6,8 +6,8 @@ use Rattle.mintc_safe.specs.Hold.{safe_links_of}
 use Rattle.mintc_safe.specs.SafeOptimum.{bare}
 use Rattle.mintc_safe.proofs.chain.members.Goals as goal
 
-pub safe_member_of-requires : goal.safe_member_of-requires
-safe_member_of-requires c =
+pub safe_member_of-requires-clause-link : goal.safe_member_of-requires-clause-link
+safe_member_of-requires-clause-link c =
     rw c.requires.links
     (Contains-get_or (safe_links_of c.args.system.now) (get_or c.args.chain.now c.loop-number.number-index 0) _ (rw c.requires.links at c.requires.chain c.loop-number.number-index 0 c.loop-number-test.true))
 

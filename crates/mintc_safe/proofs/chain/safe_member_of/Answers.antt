@@ -7,13 +7,13 @@ use Rattle.mintc_safe.proofs.chain.safe_member_of.Goals as goal
 
 pub hold_of-requires : goal.hold_of-requires
 hold_of-requires c =
-    let known = of_safe_kind c.args.system.now c.flat-flat.ensures.design c.args.link.now (kind.Other c.in-Some.number) c.in-Some.ensures c.requires in
+    let known = of_safe_kind c.args.system.now c.requires.design c.args.link.now (kind.Other c.in-Some.number) c.in-Some.ensures c.requires.link in
     record { number = known.0; held = known.1 }
 
 pub plain_of-requires-clause-link : goal.plain_of-requires-clause-link
-plain_of-requires-clause-link c = is_of_design c.args.system.now c.flat-flat.ensures.design c.args.link.now c.in-None.ensures c.requires
+plain_of-requires-clause-link c = is_of_design c.args.system.now c.requires.design c.args.link.now c.in-None.ensures c.requires.link
 
 pub returns-in-Some : goal.returns-in-Some
 returns-in-Some c =
-    let is = (of_safe_kind c.args.system.now c.flat-flat.ensures.design c.args.link.now (kind.Other c.in-Some.number) c.in-Some.ensures c.requires).2 in
+    let is = (of_safe_kind c.args.system.now c.requires.design c.args.link.now (kind.Other c.in-Some.number) c.in-Some.ensures c.requires.link).2 in
     subst (λ (k : Link). IfOk c.hold_of.result (StandsFor c.args.system.now k)) (sym is) c.hold_of.ensures

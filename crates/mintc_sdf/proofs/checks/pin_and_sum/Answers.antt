@@ -1,6 +1,6 @@
 use Rattle.std.proofs.Common.{option_map, ◌∙◌}
 use Rattle.mintc_sdf.specs.Forms.{claim, lone_value}
-use Rattle.mintc_sdf.proofs.CarriedLaws.{passed-on}
+use Rattle.mintc_sdf.proofs.SharedCarriedLaws.{passed-on}
 use Rattle.mintc_sdf.proofs.ClaimLaws.{map-none, ports-none, ports-go, pin-done}
 use Rattle.mintc_sdf.proofs.checks.pin_and_sum.Goals as goal
 

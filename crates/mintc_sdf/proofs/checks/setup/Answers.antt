@@ -1,6 +1,6 @@
 use Rattle.std.proofs.Common.{refl}
 use Rattle.mintc_sdf.specs.declared.delays.Subject.TheVariants as subject
-use Rattle.mintc_sdf.proofs.CarriedLaws.{passed-on}
+use Rattle.mintc_sdf.proofs.SharedCarriedLaws.{passed-on}
 use Rattle.mintc_sdf.proofs.checks.setup.Goals as goal
 
 pub returns-in_err-pin : goal.returns-in_err-pin

@@ -3,7 +3,7 @@ use Rattle.mintc_sdf_tokens.proofs.SharedInsideLaws.{inside-none}
 use Rattle.mintc_sdf_tokens.specs.Reading.{inside}
 use Rattle.mintc_sdf.specs.declared.delays.Subject.TheVariants as subject
 use Rattle.mintc_sdf.specs.Forms.{lone_value, width, claim, port_at}
-use Rattle.mintc_sdf.proofs.CarriedLaws.{passed-on}
+use Rattle.mintc_sdf.proofs.SharedCarriedLaws.{passed-on}
 use Rattle.mintc_sdf.proofs.SharedListLaws.{at-goes}
 use Rattle.mintc_sdf.proofs.ClaimLaws.{claim-some, map-none}
 use Rattle.mintc_sdf.proofs.checks.width.Goals as goal

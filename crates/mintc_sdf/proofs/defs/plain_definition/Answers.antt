@@ -1,8 +1,8 @@
 use Rattle.std.proofs.Common.{None, true, refl, sym}
 use Rattle.mintc_sdf_tokens.proofs.SharedInsideLaws.{inside-word, inside-none, needs-word}
 use Rattle.mintc_sdf.specs.Forms.{inner_def}
-use Rattle.mintc_sdf.proofs.CarriedLaws.{passed-on}
-use Rattle.mintc_sdf.proofs.ConditionLaws.{plain-word, plain-def}
+use Rattle.mintc_sdf.proofs.SharedCarriedLaws.{passed-on}
+use Rattle.mintc_sdf.proofs.SharedFoundLaws.{plain-word, plain-def}
 use Rattle.mintc_sdf.proofs.defs.plain_definition.Goals as goal
 
 pub returns-in_err-key : goal.returns-in_err-key

@@ -1,8 +1,8 @@
 use Rattle.std.proofs.Common.{None, false, refl, sym}
 use Rattle.mintc_sdf_tokens.proofs.SharedInsideLaws.{inside-word, inside-none, needs-word}
 use Rattle.mintc_sdf.specs.Forms.{inner_port}
-use Rattle.mintc_sdf.proofs.CarriedLaws.{passed-on}
-use Rattle.mintc_sdf.proofs.ConditionLaws.{plain-word, plain-port}
+use Rattle.mintc_sdf.proofs.SharedCarriedLaws.{passed-on}
+use Rattle.mintc_sdf.proofs.SharedFoundLaws.{plain-word, plain-port}
 use Rattle.mintc_sdf.proofs.ports.edge_port.Goals as goal
 
 pub returns-in_err-edge : goal.returns-in_err-edge

@@ -1,9 +1,10 @@
 use Rattle.std.proofs.Common.{ap, ◌∙◌}
 use Rattle.std.proofs.lemmas.Option.{MatchOption-at_some, MatchOption-at_none}
 use Rattle.mintc_sdf_edges.specs.Telling.{item}
-use Rattle.mintc_sdf_edges.proofs.CarriedLaws.{carried, passed-on}
+use Rattle.mintc_sdf.proofs.SharedCarriedLaws.{carried, passed-on}
 use Rattle.mintc_sdf.proofs.SharedListLaws.{at-none}
-use Rattle.mintc_sdf_edges.proofs.ConditionLaws.{shown, plain-there, def-found, def-found_none, item-shown, item-hidden}
+use Rattle.mintc_sdf.proofs.SharedFoundLaws.{shown}
+use Rattle.mintc_sdf_edges.proofs.ConditionLaws.{plain-there, def-found, def-found_none, item-shown, item-hidden}
 use Rattle.mintc_sdf_edges.proofs.items.conditional.Goals as goal
 
 pub returns-in_default : goal.returns-in_default

@@ -1,5 +1,5 @@
 use Rattle.std.proofs.Common.{Some, sym, ap, ◌∙◌}
-use Rattle.mintc_sdf_edges.proofs.CarriedLaws.{carried}
+use Rattle.mintc_sdf.proofs.SharedCarriedLaws.{carried}
 use Rattle.mintc_sdf_edges.proofs.ItemLaws.{plain-said, plain-open, plain-passed, scale-lost, scale-done}
 use Rattle.mintc_sdf_edges.proofs.items.plain.Goals as goal
 

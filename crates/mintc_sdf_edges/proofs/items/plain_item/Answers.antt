@@ -1,8 +1,8 @@
 use Rattle.std.proofs.Common.{refl, true, ◌∙◌}
 use Rattle.mintc_sdf_tokens.proofs.SharedInsideLaws.{needs-word}
 use Rattle.mintc_sdf_edges.specs.Telling.{item}
-use Rattle.mintc_sdf_edges.proofs.CarriedLaws.{carried, passed-on}
-use Rattle.mintc_sdf_edges.proofs.ConditionLaws.{plain-word, plain-def}
+use Rattle.mintc_sdf.proofs.SharedCarriedLaws.{carried, passed-on}
+use Rattle.mintc_sdf.proofs.SharedFoundLaws.{plain-word, plain-def}
 use Rattle.mintc_sdf_edges.proofs.ItemLaws.{item-plain}
 use Rattle.mintc_sdf_edges.proofs.items.plain_item.Goals as goal
 

@@ -2,7 +2,7 @@ use Rattle.std.proofs.Common.{sym, ap, ◌∙◌}
 use Rattle.mintc_sdf_tokens.specs.Reading.{inside}
 use Rattle.mintc_sdf_edges.specs.Spans.{value_spans}
 use Rattle.mintc_sdf_edges.specs.Telling.{keep_all}
-use Rattle.mintc_sdf_edges.proofs.CarriedLaws.{carried, passed-on}
+use Rattle.mintc_sdf.proofs.SharedCarriedLaws.{carried, passed-on}
 use Rattle.mintc_sdf_edges.proofs.ItemLaws.{said-lost, said-apart, said-done, said-over}
 use Rattle.mintc_sdf_edges.proofs.items.said.Goals as goal
 

@@ -1,8 +1,8 @@
 use Rattle.std.proofs.Common.{Some, false, refl, sym, ap, ◌∙◌}
 use Rattle.mintc_sdf_tokens.proofs.SharedInsideLaws.{needs-word}
 use Rattle.mintc_sdf_edges.specs.Edges.{inner_edge}
-use Rattle.mintc_sdf_edges.proofs.CarriedLaws.{passed-on}
-use Rattle.mintc_sdf_edges.proofs.ConditionLaws.{plain-word, plain-port}
+use Rattle.mintc_sdf.proofs.SharedCarriedLaws.{passed-on}
+use Rattle.mintc_sdf.proofs.SharedFoundLaws.{plain-word, plain-port}
 use Rattle.mintc_sdf_edges.proofs.PortLaws.{edge-open, edge-done}
 use Rattle.mintc_sdf_edges.proofs.ports.edge_port.Goals as goal
 

@@ -1,6 +1,6 @@
 use Rattle.std.proofs.Common.{Some, sym, ap, ◌∙◌}
 use Rattle.mintc_sdf_tokens.specs.Items.{items}
-use Rattle.mintc_sdf_edges.proofs.CarriedLaws.{passed-on}
+use Rattle.mintc_sdf.proofs.SharedCarriedLaws.{passed-on}
 use Rattle.mintc_sdf_edges.proofs.PortLaws.{heading-none, heading-one, heading-half, heading-two}
 use Rattle.mintc_sdf_edges.proofs.ports.heading.Goals as goal
 

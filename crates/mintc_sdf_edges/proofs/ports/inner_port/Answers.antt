@@ -1,7 +1,7 @@
 use Rattle.std.proofs.Common.{ap, ◌∙◌}
 use Rattle.std.proofs.lemmas.Option.{MatchOption-at_some, MatchOption-at_none}
-use Rattle.mintc_sdf_edges.proofs.CarriedLaws.{carried}
-use Rattle.mintc_sdf_edges.proofs.ConditionLaws.{shown}
+use Rattle.mintc_sdf.proofs.SharedCarriedLaws.{carried}
+use Rattle.mintc_sdf.proofs.SharedFoundLaws.{shown}
 use Rattle.mintc_sdf_edges.proofs.ConditionLaws.{port-found, port-found_none}
 use Rattle.mintc_sdf_edges.proofs.ports.inner_port.Goals as goal
 

@@ -1,7 +1,7 @@
 use Rattle.std.proofs.Common.{Some, sym, ap, ◌∙◌}
 use Rattle.mintc_sdf_tokens.specs.Items.{items}
 use Rattle.mintc_sdf_tokens.specs.Reading.{after_opening}
-use Rattle.mintc_sdf_edges.proofs.CarriedLaws.{carried, passed-on}
+use Rattle.mintc_sdf.proofs.SharedCarriedLaws.{carried, passed-on}
 use Rattle.mintc_sdf_edges.proofs.PortLaws.{port-word, port-none, port-bad, port-list}
 use Rattle.mintc_sdf_edges.proofs.ports.port.Goals as goal
 

@@ -2,7 +2,7 @@ use Rattle.std.proofs.Common.{length, sym, ap, ◌∙◌, arith}
 use Rattle.mintc_sdf_tokens.specs.Reading.{inside, word_at}
 use Rattle.mintc_sdf_tokens.proofs.SharedInsideLaws.{word-next}
 use Rattle.mintc_sdf_edges.specs.Spans.{value_span}
-use Rattle.mintc_sdf_edges.proofs.CarriedLaws.{passed-on}
+use Rattle.mintc_sdf.proofs.SharedCarriedLaws.{passed-on}
 use Rattle.mintc_sdf_edges.proofs.SpanLaws.{widened, widened-start, value-end, value-other, value-bad, value-step}
 use Rattle.mintc_sdf_edges.proofs.spans.value.Goals as goal
 

@@ -1,7 +1,7 @@
 use Rattle.std.proofs.Common.{sym, ap, ◌∙◌}
 use Rattle.mintc_sdf_tokens.specs.Reading.{inside, after_opening}
 use Rattle.mintc_sdf_edges.specs.Spans.{value_spans}
-use Rattle.mintc_sdf_edges.proofs.CarriedLaws.{passed-on}
+use Rattle.mintc_sdf.proofs.SharedCarriedLaws.{passed-on}
 use Rattle.mintc_sdf_edges.proofs.SpanLaws.{appended, appended-start, values-end, values-other, values-bad, values-step}
 use Rattle.mintc_sdf_edges.proofs.spans.values.Goals as goal
 

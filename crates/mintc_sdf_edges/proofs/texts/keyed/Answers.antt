@@ -1,6 +1,7 @@
 use Rattle.std.proofs.Common.{true, sym}
-use Rattle.mintc_sdf_edges.proofs.CarriedLaws.{carried, passed-on, on-answer}
-use Rattle.mintc_sdf_edges.proofs.ConditionLaws.{plain-word, plain-def}
+use Rattle.mintc_sdf.proofs.SharedCarriedLaws.{carried, passed-on}
+use Rattle.mintc_sdf_edges.proofs.CarriedLaws.{on-answer}
+use Rattle.mintc_sdf.proofs.SharedFoundLaws.{plain-word, plain-def}
 use Rattle.mintc_sdf_edges.proofs.WalkLaws.{no-word, word-there, block-entered, plain-entered, plain-lost, plain-shorter}
 use Rattle.mintc_sdf_edges.proofs.texts.keyed.Goals as goal
 

@@ -1,6 +1,7 @@
 use Rattle.mintc_sdf_tokens.proofs.SharedInsideLaws.{inside-shorter}
 use Rattle.mintc_sdf_edges.specs.Telling.{item}
-use Rattle.mintc_sdf_edges.proofs.CarriedLaws.{carried, on-answer}
+use Rattle.mintc_sdf.proofs.SharedCarriedLaws.{carried}
+use Rattle.mintc_sdf_edges.proofs.CarriedLaws.{on-answer}
 use Rattle.mintc_sdf_edges.proofs.WalkLaws.{condition-entered, condition-lost}
 use Rattle.mintc_sdf_edges.proofs.texts.list.Goals as goal
 

@@ -1,6 +1,6 @@
 use Rattle.std.proofs.Common.{◌∷◌, ap, sym, ◌∙◌}
 use Rattle.mintc_sdf_tokens.specs.Reading.{after_opening}
-use Rattle.mintc_sdf_edges.proofs.CarriedLaws.{carried, passed-on}
+use Rattle.mintc_sdf.proofs.SharedCarriedLaws.{carried, passed-on}
 use Rattle.mintc_sdf_edges.proofs.WalkLaws.{closed, stopped, opened-row, opened-on, opened-lost}
 use Rattle.mintc_sdf_edges.proofs.texts.step.Goals as goal
 

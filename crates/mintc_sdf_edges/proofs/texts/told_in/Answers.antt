@@ -2,7 +2,7 @@ use Rattle.std.proofs.Common.{Some, [], ◌∷◌, sym, ap, ◌∙◌}
 use Rattle.mintc_sdf.specs.Texts.{after_head}
 use Rattle.mintc_sdf_tokens.specs.Items.{items}
 use Rattle.mintc_sdf_edges.specs.Walking.{after_rows}
-use Rattle.mintc_sdf_edges.proofs.CarriedLaws.{passed-on}
+use Rattle.mintc_sdf.proofs.SharedCarriedLaws.{passed-on}
 use Rattle.mintc_sdf_edges.proofs.WalkLaws.{ends, written-out, no-head, told-none, told-some}
 use Rattle.mintc_sdf_edges.proofs.texts.told_in.Goals as goal
 

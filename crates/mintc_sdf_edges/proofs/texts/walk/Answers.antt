@@ -1,5 +1,5 @@
 use Rattle.std.proofs.Common.{sym, ◌∙◌}
-use Rattle.mintc_sdf_edges.proofs.CarriedLaws.{passed-on}
+use Rattle.mintc_sdf.proofs.SharedCarriedLaws.{passed-on}
 use Rattle.mintc_sdf_edges.proofs.WalkLaws.{on-start, on-step, on-end}
 use Rattle.mintc_sdf_edges.proofs.texts.walk.Goals as goal
 

@@ -10,7 +10,7 @@ use Rattle.mintcx_csv.proofs.passes.rooms_csv.Goals as goal
 
 pub overflow_cast-place : goal.overflow_cast-place
 overflow_cast-place c =
-    omega (arith, c.requires c.loop-place.place-index (0, pos 0, 0) c.loop-place-test.true, c.flat-flat.ensures.design.elements)
+    omega (arith, c.requires.inside c.loop-place.place-index (0, pos 0, 0) c.loop-place-test.true, c.requires.design.elements)
 
 pub loop-place-preserved : goal.loop-place-preserved
 loop-place-preserved c =

@@ -1,6 +1,6 @@
 use Rattle.std.proofs.Common.{◌≡◌, ◌++◌, map, take}
 use Rattle.mintc_text.specs.Lines.{spaced}
-use Rattle.mintcx_csv.specs.Violations.{from_of}
+use Rattle.mintcx_judgements.specs.Sources.{from_of}
 use Rattle.mintcx_csv.proofs.violations.put_spaced.Given as goal
 
 -- the names so far are written

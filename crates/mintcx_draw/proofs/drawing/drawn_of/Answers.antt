@@ -6,7 +6,8 @@ use Rattle.mintcx_chain.specs.Rows.{AreInTime}
 use Rattle.mintcx_chart.specs.declared.lanes.Lane.{Lane}
 use Rattle.mintcx_chart.specs.Stretches.{IsShown, greatest_of, least_of, times_of}
 use Rattle.mintcx_draw.specs.Drawings.{IsOfRows, next_time}
-use Rattle.mintcx_draw.specs.Lanes.{drawn_count, no_row, IsSoon}
+use Rattle.mintcx_draw.specs.Lanes.{drawn_count, IsSoon}
+use Rattle.mintcx_optima.specs.Tables.{no_row}
 use Rattle.mintcx_draw.proofs.ChainLaws.{rows_count, rows_soon}
 use Rattle.mintcx_draw.proofs.ScaleLaws.{cycle_in, next_in_time, next_read, picture_drawn, shown_as, too_long_drawn}
 use Rattle.mintcx_draw.proofs.WideLaws.{chain_drawn, keep_drawn, wide}

@@ -2,7 +2,8 @@ use Rattle.std.proofs.lemmas.Result.{err_from_is_err_and}
 use Rattle.mintc_timing.specs.Limits.{IsWithinLimits}
 use Rattle.mintcx_edges.specs.EdgeFiles.{description, AreReadApart, IsEdgeDesignOver, IsEdgeRefusalOver, of_delays, of_cells, of_clock}
 use Rattle.mintcx_edges.specs.Seen.{IsReadDesign, IsReadRefusal}
-use Rattle.mintcx_edges.proofs.StopLaws.{StopsAt-mono, if_ok, if_err, over_design, over_refusal, read_within}
+use Rattle.mintc_build.proofs.SharedStopLaws.{StopsAt-mono, if_ok, if_err}
+use Rattle.mintcx_edges.proofs.StopLaws.{over_design, over_refusal, read_within}
 use Rattle.mintcx_edges.proofs.files.from_edge_files.Goals as goal
 
 pub returns-in_err-delays-clause-stop : goal.returns-in_err-delays-clause-stop

@@ -2,7 +2,7 @@ use Rattle.std.proofs.Common.{◌++◌, ◌∷◌, [], ◌∙◌, ℕ, List, ap,
 use Rattle.std.proofs.lemmas.List.{take_more, map-append}
 use Rattle.json.specs.Json.{string}
 use Rattle.json.specs.Tree.{json_tokens}
-use Rattle.mintcx_json.specs.Judgements.{from_of}
+use Rattle.mintcx_judgements.specs.Sources.{from_of}
 use Rattle.mintcx_json.specs.Objects.{name}
 use Rattle.mintcx_json.specs.Pieces.{values_tokens}
 use Rattle.mintcx_json.proofs.PieceLaws.{one_taken}

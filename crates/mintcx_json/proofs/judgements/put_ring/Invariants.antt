@@ -1,5 +1,5 @@
 use Rattle.std.proofs.Common.{◌≡◌, ◌++◌, map, take}
-use Rattle.mintcx_json.specs.Judgements.{from_of}
+use Rattle.mintcx_judgements.specs.Sources.{from_of}
 use Rattle.mintcx_json.specs.Objects.{name}
 use Rattle.mintcx_json.specs.Pieces.{values_tokens}
 use Rattle.mintcx_json.proofs.judgements.put_ring.Given as goal

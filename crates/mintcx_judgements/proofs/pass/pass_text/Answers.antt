@@ -12,8 +12,8 @@ use Rattle.mintcx_judgements.proofs.SharedPlaceLaws.{by_room_inside}
 use Rattle.mintcx_judgements.proofs.WrittenLaws.{pass_written}
 use Rattle.mintcx_judgements.proofs.pass.pass_text.Goals as goal
 
-pub rooms_table-requires : goal.rooms_table-requires
-rooms_table-requires c =
+pub rooms_table-requires-clause-inside : goal.rooms_table-requires-clause-inside
+rooms_table-requires-clause-inside c =
     let causes = c.in_ok-causes.causes in
     let t = causes.told.system.now in
     let places = c.in_ok-places.places.items in

@@ -29,5 +29,5 @@ returns c =
     on_ok_weaker c.put_asked.result
     (λ e. two_in_turn old first (asked_line design s unit (slice_index_or design.bounds n no_bound))
     (appended old c.put_measured.new.lines c.put-2.new.self first (10 ∷ []) begun c.in_ok-put-2.ensures.ok)
-    (e ∙ ap (λ b. c.put-2.new.self ++ ended (asked_line design s unit b)) c.bound.ensures.value))
+    (e ∙ ap (λ b. c.put-2.new.self ++ ended (asked_line design s unit b)) c.bound-bound.ensures.value))
     c.put_asked.ensures

@@ -1,4 +1,4 @@
-use Rattle.std.proofs.Common.{◌≡◌, ◌++◌, ℤ, neg_ℤ, ap, ◌∙◌, w64, to_z, of_z, arith}
+use Rattle.std.proofs.Common.{length, ◌≡◌, ◌++◌, ℤ, neg_ℤ, ap, ◌∙◌, w64, to_z, of_z, arith}
 use Rattle.std.specs.Prelude.{codes}
 use Rattle.std.proofs.lemmas.Int.{clamps, ints, to_z-of_z}
 use Rattle.std.proofs.lemmas.Result.{on_ok_weaker}
@@ -6,12 +6,16 @@ use Rattle.mintc_text.specs.Lines.{ended}
 use Rattle.mintcx_sdc.specs.declared.delays.Way.TheVariants.{Out}
 use Rattle.mintcx_sdc.specs.Delays.{delay_line}
 use Rattle.mintcx_sdc.proofs.ClockLaws.{no_line, set_line}
+use Rattle.mintcx_sdc.proofs.ListedLaws.{listed_hold}
 use Rattle.mintcx_sdc.proofs.delays.put_hold.Goals as goal
 
 pub returns-then-not-output : goal.returns-then-not-output
 returns-then-not-output c =
     let l = c.args.output.now in
     no_line c.args.lines.now l.has_hold (delay_line c.args.phases.now Out l (codes " -min ") (neg_ℤ l.hold)) c.if-not-output.true
+
+pub turned_hold-requires : goal.turned_hold-requires
+turned_hold-requires c = listed_hold (length c.args.phases.now) c.args.output.now c.requires
 
 pub returns : goal.returns
 returns c =
