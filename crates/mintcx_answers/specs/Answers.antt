@@ -332,8 +332,8 @@ AreNamed (Corners count) beside = length beside ≡ count
 AreNamed command beside = Unit {0}
 
 -- The answer for people to a command, on the bytes of its files, of which none is refused, and of the design at hand
--- where there is one: the status, which is mintc's where the whole is told, and the text of what is found, shown in this
--- view.
+-- where there is one: the status, which is mintc's where the whole is told, and the text of what is found, shown in
+-- this view.
 abbrev pub HasAnswer : Most → Option Design → Command → Aspect → List (List ℕ) → List (List ℕ) → View → Status →
     List ℕ → Type 0
 HasAnswer most shown command told beside files view status text = AreShort most files

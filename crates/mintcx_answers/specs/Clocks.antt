@@ -149,8 +149,8 @@ abbrev pub of_phases : ℕ → Option Clock → Option Clock
 of_phases count (Some clock) = if length clock.phases == count then Some clock else None
 of_phases count None = None
 
--- The clock of the design that files give; or, beside a design at hand, that of their clock description, where it has as
--- many phases, and else that of the names of the design's phases.
+-- The clock of the design that files give; or, beside a design at hand, that of their clock description, where it has
+-- as many phases, and else that of the names of the design's phases.
 abbrev pub IsClockFor : Option Design → Source → List (List ℕ) → Timing → Clock → Type 0
 IsClockFor None from files t clock = IsClockOf from files t clock
 IsClockFor (Some design) from files t clock = (read : Option Clock) × IsClockIn from files read

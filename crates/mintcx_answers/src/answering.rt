@@ -56,8 +56,8 @@ fn design_text(
 }
 
 /// The answer to a question in a text for people, of the first bytes of the files of its command, shown in this view,
-/// or their first refusal, which is mintc's, and of a corner that of its own files. Where a design is at hand, a command
-/// of one design is answered of it. The memory of files is given back once their design is read.
+/// or their first refusal, which is mintc's, and of a corner that of its own files. Where a design is at hand, a
+/// command of one design is answered of it. The memory of files is given back once their design is read.
 pub fn answer_text(
     alloc: Global,
     limits: &Limits,

@@ -46,8 +46,8 @@ use std::alloc::Global;
 use std::marker::Brand;
 use std::sync::ledger::Blank;
 
-/// What is asked of the design of a source, and what of it is told; what is beside its files as they are called, and the netlist that
-/// names the cells of a report's gates.
+/// What is asked of the design of a source, and what of it is told; what is beside its files as they are called, and the
+/// netlist that names the cells of a report's gates.
 #[derive(Clone, Copy)]
 pub(crate) struct Work<'a, 'b> {
     pub(crate) job: Job,

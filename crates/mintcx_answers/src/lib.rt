@@ -2,8 +2,8 @@
 //!
 //! It goes the way of mintc: from the first bytes of the files to the system of their design, from there to what is
 //! asked of it, and at the end to another text, by the crates that write for people. Where mintc refuses the files,
-//! this is mintc's first refusal, and of a corner that of its own files. Where a design is at hand, the answer speaks of
-//! it in place of the one that the first files give. Nothing is read or written here.
+//! this is mintc's first refusal, and of a corner that of its own files. Where a design is at hand, the answer speaks
+//! of it in place of the one that the first files give. Nothing is read or written here.
 #![tactic(auto)]
 
 mod answering;

@@ -47,12 +47,12 @@ pub fn design_apart(
     }
 }
 
-/// What is told of a design: its table, or what of it no table can say.
-pub fn table_apart(alloc: Global, flat: &Flat) -> Result<Apart, OutOfMemory>
-    ensures { IfOk result (IsToldApart flat.now) }
+/// What is told of a design, whose memory is given back: its table, or what of it no table can say.
+pub fn table_apart(alloc: Global, flat: Flat) -> Result<Apart, OutOfMemory>
+    ensures { IfOk result (IsToldApart flat) }
 {
-    match obstacle_of(flat) {
+    match obstacle_of(&flat) {
         Some(obstacle) => Ok(Apart::Unsaid(obstacle)),
-        None => Ok(Apart::Said(table_text(alloc, flat)?)),
+        None => Ok(Apart::Said(table_text(alloc, &flat)?)),
     }
 }

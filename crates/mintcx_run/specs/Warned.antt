@@ -54,7 +54,7 @@ IsSomeFileOf order fronts file = (number : ℕ) × IsFileOf order.call.files fro
 abbrev pub AreClampsTold : Order → List Text → Text → Type 0
 AreClampsTold order fronts text = (text ≡ [])
     ⊎ ((order.call.clamp ≡ true)
-        × (files : List File) × All (IsSomeFileOf order fronts) files × AreOfClamped files text)
+    × (files : List File) × All (IsSomeFileOf order fronts) files × AreOfClamped files text)
 
 -- The warnings beside an answer: of delays below 0 for which 0 is taken, and then of what is taken of the files.
 pub record AreAllWarned (order : Order) (fronts taken : List Text) (text : Text) : Type 0 where
