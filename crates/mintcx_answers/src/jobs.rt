@@ -23,7 +23,7 @@ use crate::schedules::timed_answer;
 use crate::verdicts::verify_answer;
 use mintc_certificate::Certificate;
 use mintc_command_answers::{
-    Answer, Job, Status, optimum, room_for, safe_from, schedule_of, slacks_from,
+    Answer, Job, Source, Status, optimum, room_for, safe_from, schedule_of, slacks_from,
 };
 use mintc_constraints::Room;
 use mintc_departure::{Settling, early, late, violations};
