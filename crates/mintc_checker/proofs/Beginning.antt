@@ -1,5 +1,5 @@
 -- Labels along no arcs.
-use Rattle.std.proofs.Common.{◌≡◌, ◌≢◌, ℕ, ◌<◌, ◌+◌, ℤ, pos, ◌+ℤ◌, ◌*ℤ◌, List, [], length, arith, refl, ap, ◌∙◌, sym, ◌⊎◌, inl, inr, ⊎_elim, Option, Some, subst}
+use Rattle.std.proofs.Common.{◌≡◌, ◌≢◌, ℕ, ◌<◌, ◌+◌, ℤ, pos, ◌+ℤ◌, ◌*ℤ◌, List, [], length, arith, refl, ap, ◌∙◌, sym, ⊎_elim, Some, None, subst}
 use Rattle.std.proofs.lemmas.Int.{ints}
 use Rattle.std.proofs.lemmas.Bool.{cases_eq}
 use Rattle.mintc_timing.specs.Departures.{departure}
@@ -7,8 +7,10 @@ use Rattle.mintc_timing.specs.Design.{Design, element_at}
 use Rattle.mintc_timing.specs.Paths.{Leads, output_of}
 use Rattle.mintc_checker.specs.declared.labels.Labels.{Labels}
 use Rattle.mintc_checker.specs.Trails.{IsGreatestTime, LeadsFrom, time_along}
-use Rattle.mintc_checker.specs.Labels.{labels_at, label_at, AreLabelsOf, IsStart}
-use Rattle.mintc_checker.proofs.Greatest.{greatest_of_one, greatest_same}
+use Rattle.mintc_lanes.specs.Lanes.{lane_at}
+use Rattle.mintc_checker.specs.Course.{place_at, IsOutput}
+use Rattle.mintc_checker.specs.Labels.{labels_at, label_at, AreRows, IsRowOf, IsStart}
+use Rattle.mintc_checker.proofs.Greatest.{greatest_of_none, greatest_of_one}
 
 -- the time of an empty path
 pub time-empty : (design : Design) (den : ℤ) (d : List ℤ) (j : ℕ) → time_along design den d j [] ≡ departure d j +ℤ (element_at design j).dq_max *ℤ den
@@ -17,57 +19,56 @@ time-empty design den d j =
     let none : dq +ℤ pos 0 ≡ dq = omega (arith, ints) in
     ap (λ v. departure d j +ℤ v *ℤ den) none
 
-module _ (design : Design) (den : ℤ) (d : List ℤ) (i lane : ℕ) (time : ℤ) (old new : List Labels) (same : length new ≡ length old)
+module _ (design : Design) (den : ℤ) (d : List ℤ) (i lane : ℕ) (time : ℤ) (places : List ℕ) (row : ℕ) (old new : List Labels) (same : length new ≡ length old)
     (inside : i < length design.elements) (of_phase : lane + 1 ≡ (element_at design i).phase)
     (is : time ≡ departure d i +ℤ (element_at design i).dq_max *ℤ den)
-    (others : (other : ℕ) → other ≢ output_of i → labels_at new other ≡ labels_at old other)
-    (lanes : (other : ℕ) → other ≢ lane → label_at new (output_of i) other ≡ label_at old (output_of i) other)
-    (own : label_at new (output_of i) lane ≡ Some time)
-    (h : AreLabelsOf design den d (IsStart i) old) where
-  abbrev Starts : ℕ → ℕ → ℕ → ℕ → List ℕ → Type 0
-  Starts count l bit j path = LeadsFrom design (l + 1) bit j path × IsStart count j path
+    (row_is : row ≡ place_at places (output_of i)) (row_in : row < length old) (apart : (l : ℕ) → l < i → place_at places (output_of l) ≢ row)
+    (others : (other : ℕ) → other ≢ row → labels_at new other ≡ labels_at old other)
+    (lanes : (other : ℕ) → other ≢ lane → label_at new row other ≡ label_at old row other)
+    (own : label_at new row lane ≡ Some time)
+    (h : AreRows design den d (IsOutput i) IsStart places old) where
+  abbrev Starts : ℕ → ℕ → ℕ → List ℕ → Type 0
+  Starts l bit j path = LeadsFrom design (l + 1) bit j path × IsStart j path
 
-  -- a start of one more element is one of the others, or it is of this element
-  last : (l bit j : ℕ) (path : List ℕ) → Starts (i + 1) l bit j path → Starts i l bit j path ⊎ ((bit ≡ output_of i) × (l ≡ lane) × (j ≡ i))
-  last l bit j path g = ⊎_elim
-      (λ (e : j ≡ i).
-      let phase : (element_at design i).phase ≡ l + 1 = rw e at g.0.phase in
-      inr (sym (rw (g.1.1, e) at g.0.trail.leads), omega arith, e))
-      (λ ne. let below = g.1.0 in inl (g.0, (omega arith, g.1.1)))
-      (cases_eq j i)
+  -- a trail of no arcs to the output is of this element
+  here : (l j : ℕ) (path : List ℕ) → Starts l (output_of i) j path → j ≡ i
+  here l j path g =
+      let at : output_of j ≡ output_of i = subst (λ xs. Leads design.arcs (output_of j) xs (output_of i)) g.1 g.0.trail.leads in
+      omega arith
 
-  more : (l bit j : ℕ) (path : List ℕ) → Starts i l bit j path → Starts (i + 1) l bit j path
-  more l bit j path g = let below = g.1.0 in (g.0, (omega arith, g.1.1))
-
-  label-other : (l bit : ℕ) (x : Option ℤ) → (bit ≡ output_of i → l ≡ lane → ⊥) → IsGreatestTime (Starts i l bit) (time_along design den d) x → IsGreatestTime (Starts (i + 1) l bit) (time_along design den d) x
-  label-other l bit x ne g =
-      greatest_same (Starts i l bit) (Starts (i + 1) l bit) (time_along design den d) (more l bit)
-      (λ j path k. ⊎_elim (λ old. old) (λ new. absurd (ne new.0 new.1)) (last l bit j path k)) x g
-
-  label-own : IsGreatestTime (Starts (i + 1) lane (output_of i)) (time_along design den d) (Some time)
+  label-own : IsGreatestTime (Starts lane (output_of i)) (time_along design den d) (Some time)
   label-own =
-      greatest_of_one (Starts (i + 1) lane (output_of i)) (time_along design den d) i [] time
-      (record { trail = record { element = inside; leads = refl }; phase = sym of_phase }, (omega arith, refl))
+      greatest_of_one (Starts lane (output_of i)) (time_along design den d) i [] time
+      (record { trail = record { element = inside; leads = refl }; phase = sym of_phase }, refl)
       (time-empty design den d i ∙ sym is)
-      (λ j path g.
-      let at : output_of j ≡ output_of i = subst (λ xs. Leads design.arcs (output_of j) xs (output_of i)) g.1.1 g.0.trail.leads in
-      let here : j ≡ i = omega arith in
-      ap (time_along design den d j) g.1.1 ∙ time-empty design den d j ∙ ap (λ k. departure d k +ℤ (element_at design k).dq_max *ℤ den) here ∙ sym is)
+      (λ j path g. ap (time_along design den d j) g.1 ∙ time-empty design den d j ∙ ap (λ k. departure d k +ℤ (element_at design k).dq_max *ℤ den) (here lane j path g) ∙ sym is)
 
-  abbrev IsOf : ℕ → ℕ → Option ℤ → Type 0
-  IsOf bit l x = IsGreatestTime (Starts (i + 1) l bit) (time_along design den d) x
+  label-none : (l : ℕ) → l ≢ lane → IsGreatestTime (Starts l (output_of i)) (time_along design den d) None
+  label-none l ne = greatest_of_none (Starts l (output_of i)) (time_along design den d) (λ j path g.
+      let phase : (element_at design i).phase ≡ l + 1 = ap (λ k. (element_at design k).phase) (sym (here l j path g)) ∙ g.0.phase in
+      ne (omega arith))
 
-  at_output : (l : ℕ) → output_of i < length new → l < 8 → IsOf (output_of i) l (label_at new (output_of i) l)
-  at_output l within eight = ⊎_elim
+  empty : (l : ℕ) → l < 8 → label_at old row l ≡ None
+  empty l eight = h.others row l row_in eight (λ bit o at. apart o.0 o.1 (ap (place_at places) (sym o.2) ∙ at))
+
+  own_row : IsRowOf design den d IsStart (output_of i) (labels_at new row).lanes
+  own_row l eight = ⊎_elim
       (λ (e : l ≡ lane). rw (e, own) label-own)
-      (λ ne. rw (lanes l ne) (label-other l (output_of i) (label_at old (output_of i) l) (λ a b. ne b) (h.each (output_of i) l (omega arith) eight)))
-      (cases_eq l lane)
+      (λ ne. rw (lanes l ne, empty l eight) (label-none l ne)) (cases_eq l lane)
 
-  pub AreStarts-more : AreLabelsOf design den d (IsStart (i + 1)) new
-  AreStarts-more = record {
-    count = same ∙ h.count;
-    each = λ bit l within eight. ⊎_elim
-        (λ (e : bit ≡ output_of i). rw e (at_output l (rw e at within) eight))
-        (λ ne. rw (others bit ne) (label-other l bit (label_at old bit l) (λ a b. ne a) (h.each bit l (omega arith) eight)))
-        (cases_eq bit (output_of i));
+  pub AreRows-begun : AreRows design den d (IsOutput (i + 1)) IsStart places new
+  AreRows-begun = record {
+    held = λ bit o. ⊎_elim
+        (λ (e : o.0 ≡ i).
+        let at : bit ≡ output_of i = o.2 ∙ ap output_of e in
+        subst (λ b. IsRowOf design den d IsStart b (labels_at new (place_at places b)).lanes) (sym at)
+        (subst (λ r. IsRowOf design den d IsStart (output_of i) (labels_at new r).lanes) row_is own_row))
+        (λ ne.
+        let low : o.0 < i = omega (arith, o.1) in
+        let away : place_at places bit ≢ row = λ s. apart o.0 low (ap (place_at places) (sym o.2) ∙ s) in
+        subst (λ (r : Labels). IsRowOf design den d IsStart bit r.lanes) (sym (others (place_at places bit) away)) (h.held bit (o.0, low, o.2)))
+        (cases_eq o.0 i);
+    others = λ place l below eight none.
+        let away : place ≢ row = λ s. none (output_of i) (i, omega arith, refl) (sym row_is ∙ sym s) in
+        ap (λ (r : Labels). lane_at r.lanes l) (others place away) ∙ h.others place l (omega (arith, same)) eight (λ bit o. none bit (o.0, omega (arith, o.1), o.2));
   }

@@ -1,19 +1,17 @@
 -- Labels along one more arc.
-use Rattle.std.proofs.Common.{◌≡◌, ◌≢◌, ℕ, ◌<◌, ◌+◌, ℤ, ◌+ℤ◌, ◌*ℤ◌, List, [], ◌∷◌, ◌++◌, length, get_or, arith, refl, ap, ◌∙◌, sym, ◌⊎◌, inl, inr, ⊎_elim, Option, subst}
+use Rattle.std.proofs.Common.{◌≡◌, ◌≢◌, ℕ, ◌<◌, ◌+◌, ℤ, ◌+ℤ◌, ◌*ℤ◌, List, [], ◌∷◌, ◌++◌, length, get_or, arith, refl, ap, ◌∙◌, ◌⊎◌, inl, inr, ⊎_elim, Option, subst}
 use Rattle.std.specs.Int.{int_max}
 use Rattle.std.proofs.lemmas.Int.{ints}
-use Rattle.std.proofs.lemmas.Bool.{cases_eq}
 use Rattle.mintc_timing.specs.Design.{Design, element_at}
 use Rattle.mintc_timing.specs.Order.{IsOrder}
 use Rattle.mintc_timing.specs.Paths.{arc_at, output_of, greatest_delay}
 use Rattle.mintc_timing.proofs.SharedProducts.{add-times}
-use Rattle.mintc_timing.specs.Among.{IsAmong, AreAmong}
-use Rattle.mintc_timing.proofs.SharedOrdered.{Leads-push, AreAmong-push, AreAmong-more, split, inside, all_among, none_among}
+use Rattle.mintc_timing.specs.Among.{IsAmong}
+use Rattle.mintc_timing.proofs.SharedOrdered.{Leads-push, AreAmong-push, AreAmong-more, split, inside}
 use Rattle.mintc_graph.proofs.SharedRingLaws.{total-push}
-use Rattle.mintc_lanes.specs.Lanes.{joined, AreJoined}
-use Rattle.mintc_checker.specs.declared.labels.Labels.{Labels}
+use Rattle.mintc_lanes.specs.Lanes.{joined}
 use Rattle.mintc_checker.specs.Trails.{IsGreatestTime, LeadsFrom, time_along}
-use Rattle.mintc_checker.specs.Labels.{labels_at, label_at, AreLabels, AreLabelsOf, IsStart, IsAlong}
+use Rattle.mintc_checker.specs.Labels.{IsAlong}
 use Rattle.mintc_checker.proofs.Greatest.{greatest_same, greatest_joined}
 
 module _ (design : Design) (den : ℤ) (d : List ℤ) where
@@ -65,50 +63,13 @@ module _ (design : Design) (den : ℤ) (d : List ℤ) where
         (split design.arcs order is_order (output_of j) path bit k low h.0.trail.leads h.1)
 
     -- A bit that the arc doesn't enter keeps its labels; the one that it enters takes those of the other end.
-    label-other : (p bit : ℕ) (x : Option ℤ) → bit ≢ to → IsGreatestTime (Trails k p bit) (time_along design den d) x → IsGreatestTime (Trails (k + 1) p bit) (time_along design den d) x
+    pub label-other : (p bit : ℕ) (x : Option ℤ) → bit ≢ to → IsGreatestTime (Trails k p bit) (time_along design den d) x → IsGreatestTime (Trails (k + 1) p bit) (time_along design den d) x
     label-other p bit x ne h =
         greatest_same (Trails k p bit) (Trails (k + 1) p bit) (time_along design den d) (more p bit)
         (λ j path g. ⊎_elim (λ old. old) (λ new. absurd (ne new.0)) (last p bit j path g)) x h
 
-    label-joined : (p : ℕ) (x y : Option ℤ) → IsGreatestTime (Trails k p to) (time_along design den d) x → IsGreatestTime (Trails k p from) (time_along design den d) y →
+    pub label-joined : (p : ℕ) (x y : Option ℤ) → IsGreatestTime (Trails k p to) (time_along design den d) x → IsGreatestTime (Trails k p from) (time_along design den d) y →
         IsGreatestTime (Trails (k + 1) p to) (time_along design den d) (joined int_max x y ((arc_at design.arcs n).max *ℤ den))
     label-joined p x y h g =
         greatest_joined (Trails k p to) (Trails k p from) (Trails (k + 1) p to) (time_along design den d) (time_along design den d) (time_along design den d) ((arc_at design.arcs n).max *ℤ den)
         (λ j path t. (more p to j path t, refl)) (longer p) (λ j path t. ⊎_elim (λ old. inl (old, refl)) (λ new. inr new.1) (last p to j path t)) x y h g
-
-    -- one turn: the row of the arc's end is joined with that of its beginning
-    pub carried : (old new : List Labels) (w : ℤ) → length new ≡ length old → from < length old → to < length old → w ≡ (arc_at design.arcs n).max *ℤ den →
-        ((bit : ℕ) → bit ≢ to → labels_at new bit ≡ labels_at old bit) →
-        AreJoined int_max (labels_at old to).lanes (labels_at old from).lanes w (labels_at new to).lanes →
-        AreLabelsOf design den d (IsAlong order k) old → AreLabelsOf design den d (IsAlong order (k + 1)) new
-    carried old new w same from_in to_in weight others joins h = record {
-      count = same ∙ h.count;
-      each = λ bit lane within eight. ⊎_elim
-          (λ (e : bit ≡ to). rw (e, joins lane eight, weight) (label-joined (lane + 1) (label_at old to lane) (label_at old from lane) (h.each to lane to_in eight) (h.each from lane from_in eight)))
-          (λ ne. rw (others bit ne) (label-other (lane + 1) bit (label_at old bit lane) ne (h.each bit lane (omega arith) eight)))
-          (cases_eq bit to);
-    }
-
--- a path of no arcs is along none of the order, and the other way round
-pub along_none : (design : Design) (den : ℤ) (d : List ℤ) (order : List ℕ) (labels : List Labels) →
-    AreLabelsOf design den d (IsStart (length design.elements)) labels → AreLabelsOf design den d (IsAlong order 0) labels
-along_none design den d order labels h = record {
-  count = h.count;
-  each = λ bit lane within eight.
-      greatest_same (λ j path. LeadsFrom design (lane + 1) bit j path × IsStart (length design.elements) j path) (λ j path. LeadsFrom design (lane + 1) bit j path × IsAlong order 0 j path) (time_along design den d)
-      (λ j path g. (g.0, subst (λ xs. AreAmong order 0 xs) (sym g.1.1) tt))
-      (λ j path g. (g.0, (g.0.trail.element, none_among order path g.1)))
-      (label_at labels bit lane) (h.each bit lane within eight);
-}
-
--- all paths are along the whole order
-pub along_all : (design : Design) (den : ℤ) (d : List ℤ) (order : List ℕ) → IsOrder design.arcs order → (labels : List Labels) →
-    AreLabelsOf design den d (IsAlong order (length order)) labels → AreLabels design den d labels
-along_all design den d order is_order labels h = record {
-  count = h.count;
-  each = λ bit lane within eight.
-      greatest_same (λ j path. LeadsFrom design (lane + 1) bit j path × IsAlong order (length order) j path) (LeadsFrom design (lane + 1) bit) (time_along design den d)
-      (λ j path g. g.0)
-      (λ j path g. (g, all_among design.arcs order is_order (output_of j) path bit g.trail.leads))
-      (label_at labels bit lane) (h.each bit lane within eight);
-}

@@ -47,9 +47,8 @@ module _ (design : Design) (den : ℤ) (d : List ℤ) (labels : List Labels) (ar
 
   label_is : (l : ℕ) → l < length design.elements → IsLabel design den d i (input_of l) (label_at labels (input_of l) (i - 1))
   label_is l inside =
-      let count = are_labels.count in
       let same : (i - 1) + 1 ≡ i = omega arith in
-      subst (λ p. IsLabel design den d p (input_of l) (label_at labels (input_of l) (i - 1))) same (are_labels.each (input_of l) (i - 1) (omega arith) (omega arith))
+      subst (λ p. IsLabel design den d p (input_of l) (label_at labels (input_of l) (i - 1))) same (are_labels.each l (i - 1) inside (omega arith))
 
   pub fed-pair : IsFedFrom design labels i j → feeds_of t i j ≡ true
   fed-pair h =

@@ -20,6 +20,10 @@ greatest_of_one IsTrail time i p z h e only = record {
   bound = λ j path g. let is = only j path g in omega (arith, ints);
 }
 
+-- where no trail is
+pub greatest_of_none : (IsTrail : ℕ → List ℕ → Type 0) (time : ℕ → List ℕ → ℤ) → ((j : ℕ) (path : List ℕ) → IsTrail j path → ⊥) → IsGreatestTime IsTrail time None
+greatest_of_none IsTrail time none = record { attained = tt; bound = λ j path g. absurd (none j path g) }
+
 -- the same trails and times, said otherwise
 module _ (A B : ℕ → List ℕ → Type 0) (f g : ℕ → List ℕ → ℤ)
     (there : (j : ℕ) (path : List ℕ) → A j path → B j path × (g j path ≡ f j path))

@@ -10,4 +10,6 @@ mod Pairing
 mod Fed
 mod Exact
 mod Placing
+mod Sharing
 mod Placed
+mod Holding

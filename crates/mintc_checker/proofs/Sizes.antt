@@ -1,5 +1,5 @@
 -- How large labels and arrivals are.
-use Rattle.std.proofs.Common.{ℕ, ◌<◌, ◌≤◌, ◌+◌, ◌*◌, ◌^◌, ℤ, pos, ◌+ℤ◌, ◌*ℤ◌, ◌≤ℤ◌, List, length, arith, sym, ⊎_elim, Option, Some, None, subst}
+use Rattle.std.proofs.Common.{ℕ, ◌≤◌, ◌+◌, ◌*◌, ◌^◌, ℤ, pos, ◌+ℤ◌, ◌*ℤ◌, ◌≤ℤ◌, List, length, arith, sym, ⊎_elim, Option, Some, None, subst}
 use Rattle.std.specs.Prelude.{IfSome, unsigned_abs}
 use Rattle.std.specs.List.{All}
 use Rattle.std.proofs.lemmas.Int.{ints}
@@ -9,14 +9,14 @@ use Rattle.mintc_timing.specs.Departures.{departure}
 use Rattle.mintc_timing.specs.Design.{Design, no_element, element_at}
 use Rattle.mintc_timing.specs.Limits.{IsDesign, IsDenominator}
 use Rattle.mintc_timing.specs.Order.{ArePathsShort}
-use Rattle.mintc_timing.specs.Paths.{greatest_delay}
+use Rattle.mintc_timing.specs.Paths.{greatest_delay, input_of}
 use Rattle.mintc_timing.proofs.SharedProducts.{times-mono_positive}
 use Rattle.mintc_certificate.specs.Ranges.{IsDeparture}
 use Rattle.mintc_certificate.proofs.SharedPathDelays.{path-range}
-use Rattle.mintc_lanes.specs.Lanes.{AreLanes}
+use Rattle.mintc_lanes.specs.Lanes.{lane_at, AreLanes}
 use Rattle.mintc_checker.specs.declared.labels.Labels.{Labels}
 use Rattle.mintc_checker.specs.Trails.{IsGreatestTime, LeadsTo, LeadsFrom, time_along}
-use Rattle.mintc_checker.specs.Labels.{labels_at, label_at, AreLabels, AreLabelsOf}
+use Rattle.mintc_checker.specs.Labels.{label_at, AreLabels, IsRowOf}
 use Rattle.mintc_checker.specs.Judged.{IsLate, AreTimelyLabels}
 
 pub departure-range : (d : List ℤ) → All IsDeparture d → (j : ℕ) → IsDeparture (departure d j)
@@ -52,16 +52,15 @@ module _ (design : Design) (limits : IsDesign design) (short : ArePathsShort des
   AreTimelyLabels-from_labels den d labels is_den each h = record {
     departures = each;
     each = h;
-    timely = λ bit lane within eight.
-        attained-range den d is_den each (lane + 1) bit (LeadsFrom design (lane + 1) bit) (λ j path g. g) (label_at labels bit lane) (h.each bit lane within eight);
+    timely = λ l lane inside eight.
+        attained-range den d is_den each (lane + 1) (input_of l) (LeadsFrom design (lane + 1) (input_of l)) (λ j path g. g) (label_at labels (input_of l) lane) (h.each l lane inside eight);
   }
 
   IsLate-small : (x : Option ℤ) → IfSome x IsLate → IfSome x (λ z. unsigned_abs z ≤ 2 * 10 ^ 18)
   IsLate-small None h = tt
   IsLate-small (Some z) h = omega (arith, ints)
 
-  pub AreLanes-from_labels : (den : ℤ) (d : List ℤ) (IsOfKind : ℕ → List ℕ → Type 0) (labels : List Labels) → IsDenominator den → All IsDeparture d → AreLabelsOf design den d IsOfKind labels →
-      (bit : ℕ) → bit < length labels → AreLanes (labels_at labels bit).lanes
-  AreLanes-from_labels den d IsOfKind labels is_den each h bit within lane eight =
-      IsLate-small (label_at labels bit lane)
-      (attained-range den d is_den each (lane + 1) bit (λ j path. LeadsFrom design (lane + 1) bit j path × IsOfKind j path) (λ j path g. g.0) (label_at labels bit lane) (h.each bit lane within eight))
+  pub AreLanes-from_row : (den : ℤ) (d : List ℤ) (IsOfKind : ℕ → List ℕ → Type 0) (bit : ℕ) (lanes : List ℤ) → IsDenominator den → All IsDeparture d → IsRowOf design den d IsOfKind bit lanes → AreLanes lanes
+  AreLanes-from_row den d IsOfKind bit lanes is_den each h lane eight =
+      IsLate-small (lane_at lanes lane)
+      (attained-range den d is_den each (lane + 1) bit (λ j path. LeadsFrom design (lane + 1) bit j path × IsOfKind j path) (λ j path g. g.0) (lane_at lanes lane) (h lane eight))

@@ -14,15 +14,15 @@ use Rattle.mintc_checker.specs.Labels.{AreLabels, label_at}
 abbrev pub IsLate : ℤ → Type 0
 IsLate x = (neg_ℤ MOST_NUMERATOR ≤ℤ x) × (x ≤ℤ pos 300000000000000)
 
--- Each label at each bit is a time.
-abbrev pub AreTimely : List Labels → Type 0
-AreTimely labels = (bit lane : ℕ) → bit < length labels → lane < 8 → IfSome (label_at labels bit lane) IsLate
+-- Each label at the inputs of so many elements is a time.
+abbrev pub AreTimely : ℕ → List Labels → Type 0
+AreTimely count labels = (l lane : ℕ) → l < count → lane < 8 → IfSome (label_at labels (input_of l) lane) IsLate
 
 -- the labels of departures in range, each of which is a time
 pub record AreTimelyLabels (design : Design) (den : ℤ) (d : List ℤ) (labels : List Labels) : Type 0 where
   pub departures : All IsDeparture d
   pub each : AreLabels design den d labels
-  pub timely : AreTimely labels
+  pub timely : AreTimely (length design.elements) labels
 
 -- an arrival
 abbrev pub IsArrivalTime : ℤ → Type 0

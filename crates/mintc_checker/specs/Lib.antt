@@ -6,3 +6,4 @@ pub mod Trails
 pub mod Labels
 pub mod Judged
 pub mod Course
+pub mod Rows

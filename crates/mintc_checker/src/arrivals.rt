@@ -37,7 +37,7 @@ fn later(last: Option<i64>, label: Option<i64>, add: i64) -> Option<i64>
 fn last_arrival(clocked: &ClockedDesign<'_>, labels: &LabelTable, number: u32) -> Option<i64>
     requires number { number < length clocked.now.flat.now.elements }
     requires count { length labels.now ≡ 2 * length clocked.now.flat.now.elements + length clocked.now.flat.now.inner }
-    requires timely { AreTimely labels.now }
+    requires timely { AreTimely (length clocked.now.flat.now.elements) labels.now }
     ensures last { (d : List ℤ) → AreLabels clocked.now.flat.now clocked.now.schedule.now.den d labels.now →
         IsLastArrival clocked.now.flat.now clocked.now.schedule.now d number result }
     ensures range { IfSome result IsArrivalTime }
@@ -69,7 +69,7 @@ fn opening(clocked: &ClockedDesign<'_>, number: u32) -> i64
 fn late_departure(clocked: &ClockedDesign<'_>, labels: &LabelTable, number: u32) -> i64
     requires number { number < length clocked.now.flat.now.elements }
     requires count { length labels.now ≡ 2 * length clocked.now.flat.now.elements + length clocked.now.flat.now.inner }
-    requires timely { AreTimely labels.now }
+    requires timely { AreTimely (length clocked.now.flat.now.elements) labels.now }
     ensures value { (d : List ℤ) → AreLabels clocked.now.flat.now clocked.now.schedule.now.den d labels.now →
         OfTiming clocked.now.flat.now (λ t. result ≡ departure_of t clocked.now.schedule.now d number) }
 {

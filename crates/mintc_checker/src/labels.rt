@@ -1,16 +1,17 @@
-//! Labels of phases at all bits: when data comes there at the latest.
-ghost use Rattle.std.specs.Prelude.{◌≡◌, ◌≢◌, ◌+◌, ◌*◌, ◌^◌, ◌<◌, ◌≤◌, ◌+ℤ◌, ◌*ℤ◌, ℕ, length, None, Some, IfOk, All};
-ghost use Rattle.std.specs.Prelude.{unsigned_abs};
+//! Labels of phases at bits: when data comes there at the latest.
+ghost use Rattle.std.specs.Prelude.{◌≡◌, ◌≢◌, ◌+◌, ◌*◌, ◌^◌, ◌<◌, ◌≤◌, ◌+ℤ◌, ◌*ℤ◌};
+ghost use Rattle.std.specs.Prelude.{ℕ, length, None, Some, IfOk, IsTrue, All, unsigned_abs};
 ghost use Rattle.std.specs.Int.{int_max};
 ghost use Rattle.mintc_lanes.specs.Lanes.{lane_at, AreJoined, AreLanes};
 ghost use Rattle.mintc_timing.specs.Departures.{departure};
 ghost use Rattle.mintc_timing.specs.Limits.{IsDelay, IsDesign, IsTime};
 ghost use Rattle.mintc_timing.specs.Order.{IsOrder};
 ghost use Rattle.mintc_certificate.specs.Ranges.{IsDeparture};
-ghost use Rattle.mintc_checker.specs.Course.{AreInside, ArePlacesOf, IsCourse, placed};
+ghost use Rattle.mintc_checker.specs.Course.{AreInside, AreOutputPlaces, IsCourse, IsOutput, placed};
 ghost use Rattle.mintc_timing.specs.Design.{element_at};
 ghost use Rattle.mintc_checker.specs.Judged.{AreTimelyLabels};
-ghost use Rattle.mintc_checker.specs.Labels.{AreLabelsOf, IsStart, label_at, labels_at, IsAlong};
+ghost use Rattle.mintc_checker.specs.Labels.{AreRows, IsStart, label_at, labels_at};
+ghost use Rattle.mintc_checker.specs.Rows.{AreRowsAlong};
 
 use crate::course::{Course, Places, Step, course_of};
 use crate::departing_design::DepartingDesign;
@@ -30,7 +31,7 @@ pub(crate) struct Labels {
 /// The labels where no trail leads.
 pub(crate) const NO_LABELS: Labels = Labels { lanes: [ABSENT; 8] };
 
-/// The labels at all bits, seen as their list.
+/// Labels by bits, seen as their list. Those of a bit that some arc leaves are dropped once they are carried on.
 #[derive(Drop)]
 pub(crate) struct LabelTable {
     /// For each bit the place of its labels.
@@ -128,12 +129,12 @@ fn begin(rows: &mut [Labels], place: usize, lane: usize, time: i64)
 /// Begins the lane of an element's phase at its output.
 fn begin_element(rows: &mut [Labels], departing: &DepartingDesign<'_>, places: &Places, number: u32)
     requires number { number < length departing.now.flat.now.elements }
-    requires places { ArePlacesOf departing.now.flat.now places.now }
+    requires places { AreOutputPlaces (length departing.now.flat.now.elements) places.now }
     requires count { length rows.old ≡ places.now.given + 1 }
-    requires labels { AreLabelsOf departing.now.flat.now departing.now.den departing.now.departures.now
-        (IsStart number) (placed places.now.of_bits.items rows.old) }
-    ensures { AreLabelsOf departing.now.flat.now departing.now.den departing.now.departures.now
-        (IsStart (number + 1)) (placed places.now.of_bits.items rows.new) }
+    requires rows { AreRows departing.now.flat.now departing.now.den departing.now.departures.now
+        (IsOutput number) IsStart places.now.of_bits.items rows.old }
+    ensures { AreRows departing.now.flat.now departing.now.den departing.now.departures.now
+        (IsOutput (number + 1)) IsStart places.now.of_bits.items rows.new }
 {
     let lane = departing.flat.element(number).phase as usize - 1;
     let time = output_time(departing, number);
@@ -143,11 +144,11 @@ fn begin_element(rows: &mut [Labels], departing: &DepartingDesign<'_>, places: &
 
 /// Makes the labels those of the empty paths.
 fn begin_all(rows: &mut [Labels], departing: &DepartingDesign<'_>, places: &Places)
-    requires places { ArePlacesOf departing.now.flat.now places.now }
+    requires places { AreOutputPlaces (length departing.now.flat.now.elements) places.now }
     requires count { length rows.old ≡ places.now.given + 1 }
     requires absent { (row : ℕ) → row < length rows.old → labels_at rows.old row ≡ NO_LABELS }
-    ensures labels { AreLabelsOf departing.now.flat.now departing.now.den departing.now.departures.now
-        (IsStart (length departing.now.flat.now.elements)) (placed places.now.of_bits.items rows.new) }
+    ensures rows { AreRows departing.now.flat.now departing.now.den departing.now.departures.now
+        (IsOutput (length departing.now.flat.now.elements)) IsStart places.now.of_bits.items rows.new }
     ensures design { IsDesign departing.now.flat.now }
 {
     for number in 0..departing.flat.element_count() {
@@ -190,19 +191,33 @@ fn carry_step(rows: &mut [Labels], departing: &DepartingDesign<'_>, step: Step)
     );
 }
 
-/// Carries the labels along all arcs.
+/// Drops the labels at a place after the last step that leaves its bit.
+fn finish(rows: &mut [Labels], place: u32, is_last: bool)
+    requires { place < length rows.old }
+    ensures others { (other : ℕ) → (IsTrue is_last → other ≢ place) →
+        labels_at rows.new other ≡ labels_at rows.old other }
+    ensures none { IsTrue is_last → (lane : ℕ) → lane < 8 → label_at rows.new place lane ≡ None }
+{
+    if is_last {
+        rows[place as usize] = NO_LABELS;
+    }
+}
+
+/// Carries the labels along all arcs. Those that no later arc needs are dropped.
 fn carry_all(rows: &mut [Labels], departing: &DepartingDesign<'_>, order: &Order, course: &Course)
     requires order { IsOrder departing.now.flat.now.arcs order.now }
     requires course { IsCourse departing.now.flat.now order.now course.now }
     requires places { length rows.old ≡ course.now.places.given + 1 }
-    requires labels { AreLabelsOf departing.now.flat.now departing.now.den departing.now.departures.now
-        (IsAlong order.now 0) (placed course.now.places.of_bits.items rows.old) }
-    ensures { AreLabelsOf departing.now.flat.now departing.now.den departing.now.departures.now
-        (IsAlong order.now (length order.now)) (placed course.now.places.of_bits.items rows.new) }
+    requires rows { AreRowsAlong departing.now.flat.now departing.now.den departing.now.departures.now
+        order.now course.now 0 rows.old }
+    ensures { AreRowsAlong departing.now.flat.now departing.now.den departing.now.departures.now
+        order.now course.now (length order.now) rows.new }
 {
     let _elements = departing.flat.elements();
     for place in 0..order.arcs().items().len() {
-        carry_step(rows, departing, course.steps[place]);
+        let step = course.steps[place];
+        carry_step(rows, departing, step);
+        finish(rows, step.from, course.lasts[place]);
     }
 }
 
@@ -219,7 +234,7 @@ fn fill(rows: &mut [Labels], departing: &DepartingDesign<'_>, order: &Order, cou
     carry_all(rows, departing, order, course);
 }
 
-/// The labels at all bits.
+/// The labels at the inputs of all elements.
 #[tactic(auto, using(crate::proofs::Placed::AreInside_given))]
 pub(crate) fn labels_of(
     alloc: Global,

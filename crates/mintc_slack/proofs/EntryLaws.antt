@@ -8,7 +8,9 @@ use Rattle.mintc_timing.specs.Design.{Timing, pair_at}
 use Rattle.mintc_constraints.specs.Ordinary.{Constraints}
 use Rattle.mintc_slack.specs.declared.finding.Entry.{Entry}
 use Rattle.mintc_slack.specs.declared.walked.SlackWalks.{SlackWalks}
+use Rattle.std.specs.Bool.{OnTrue}
 use Rattle.mintc_slack.specs.Gaps.{AreGaps}
+use Rattle.mintc_slack.specs.Rows.{AreInRows}
 use Rattle.mintc_slack.specs.Entries.{AreEntries, HasSettled, entry_at}
 use Rattle.mintc_slack.specs.Ready.{IsReady}
 
@@ -21,7 +23,9 @@ ready-kept t list at w v h kept count = record {
   links = h.links;
   cycle = h.cycle;
   short = h.short;
-  gaps = subst (λ (x : SlackWalks). AreGaps list at x.potentials.items x.gaps.items) (sym kept) h.gaps;
+  hub = subst (λ (x : SlackWalks). x.hub < list.nodes) (sym kept) h.hub;
+  gaps = subst (λ (x : SlackWalks). AreGaps list at x.hub x.potentials.items x.rows.gaps.items) (sym kept) h.gaps;
+  rows = subst (λ (x : SlackWalks). OnTrue x.in_rows (AreInRows x.rows.gaps.items x.rows.firsts.items)) (sym kept) h.rows;
   count = count ∙ h.count;
 }
 

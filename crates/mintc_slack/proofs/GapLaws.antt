@@ -30,8 +30,8 @@ use Rattle.mintc_slack.specs.WalkedFrom.{AreSettled}
 use Rattle.mintc_slack.proofs.SizeLaws.{asked_small}
 use Rattle.mintc_slack.proofs.WalkedLaws.{are_from}
 
-abbrev pub made : ℕ → ℕ → ℤ → ReducedCost
-made from to rest = record { from = from; to = to; rest = rest }
+abbrev pub made : ℕ → ℤ → ℕ → ReducedCost
+made from rest to = record { from = from; rest = rest; to = to }
 
 pub weighed : (f : Link → ReducedCost) (items links : List Link) (i : ℕ) (d : Link) (g : ReducedCost) → items ≡ links → i < length links → g ≡ f (get_or items i d) → g ≡ get_or (map f links) i (f (link_at links i))
 weighed f items links i d g same h is =
@@ -60,7 +60,7 @@ module _ (list : Constraints) (at : Ratio) (potentials : List ℤ) (are : ArePot
   inside-each e d h =
       let k = get_or list.links e d in
       let o = are.ordinary.each e d h in
-      let met = are.greatest.met e d h in
+      let met = are.met e d h in
       let asked = ordinary-small at list.nodes k are.cycle o in
       let far = far_is in
       let from = are.small k.from o.from in
@@ -91,8 +91,8 @@ asked-one : (at : Ratio) (k : Link) → asked_by at (k ∷ []) ≡ asked_by_link
 asked-one at k = let more = asked_more at k [] in omega (arith, ints)
 
 -- one change of distances after another
-pub shorter-on : (gaps : List ReducedCost) (old now new : List ℤ) → AreShorter gaps old now → AreShorter gaps now new → AreShorter gaps old new
-shorter-on gaps old now new first next = record {
+pub shorter-on : (hub : ℕ) (gaps : List ReducedCost) (old now new : List ℤ) → AreShorter hub gaps old now → AreShorter hub gaps now new → AreShorter hub gaps old new
+shorter-on hub gaps old now new first next = record {
   range = next.range;
   count = next.count ∙ first.count;
   kept = λ list at potentials from are count d. next.kept list at potentials from are (first.count ∙ count) (first.kept list at potentials from are count d);
@@ -118,9 +118,9 @@ module _ (old : List ℤ) (v : ℕ) (x : ℤ) (inside : v < length old) (range :
       each-node (λ u y. (pos 0 ≤ℤ y) × (y ≤ℤ FAR)) (let most = (range v inside).1 in (low, omega (arith, ints))) u
       (λ e. range u (let count = length-set old v x in omega arith))
 
-  pub set-shorter : (gaps : List ReducedCost) → ((list : Constraints) (at : Ratio) (potentials : List ℤ) (from : ℕ) → AreGaps list at potentials gaps → length old ≡ list.nodes →
-      AreDistances list at potentials from old → x <ℤ FAR → IsAsked list.links at from v (value_at potentials v -ℤ value_at potentials from -ℤ x)) → AreShorter gaps old (slice_set old v x)
-  set-shorter gaps asked = record {
+  pub set-shorter : (hub : ℕ) (gaps : List ReducedCost) → ((list : Constraints) (at : Ratio) (potentials : List ℤ) (from : ℕ) → AreGaps list at hub potentials gaps → length old ≡ list.nodes →
+      AreDistances list at potentials from old → x <ℤ FAR → IsAsked list.links at from v (value_at potentials v -ℤ value_at potentials from -ℤ x)) → AreShorter hub gaps old (slice_set old v x)
+  set-shorter hub gaps asked = record {
     range = set-range;
     count = length-set old v x;
     kept = λ list at potentials from are count d. record {
@@ -132,10 +132,10 @@ module _ (old : List ℤ) (v : ℕ) (x : ℤ) (inside : v < length old) (range :
   }
 
 -- A distance that a gap shortens is that of a walk by the gap's link.
-pub shorter-by : (gaps : List ReducedCost) (g : ReducedCost) (old : List ℤ) (x : ℤ) → IsInside (length old) g → AreInRange old → x ≡ value_at old g.from +ℤ g.rest → x <ℤ value_at old g.to → Contains gaps g →
-    AreShorter gaps old (slice_set old g.to x)
-shorter-by gaps g old x inside range is less within =
-    set-shorter old g.to x inside.to range (let r = inside.low in let d = range g.from inside.from in omega (arith, ints)) less gaps
+pub shorter-by : (hub : ℕ) (gaps : List ReducedCost) (g : ReducedCost) (old : List ℤ) (x : ℤ) → IsInside (length old) g → AreInRange old → x ≡ value_at old g.from +ℤ g.rest → x <ℤ value_at old g.to → Contains gaps g →
+    AreShorter hub gaps old (slice_set old g.to x)
+shorter-by hub gaps g old x inside range is less within =
+    set-shorter old g.to x inside.to range (let r = inside.low in let d = range g.from inside.from in omega (arith, ints)) less hub gaps
     (λ list at potentials from are count d near.
     let found = link_of list at potentials are.potentials_are gaps are.permutation g within in
     let e = found.0 in
@@ -149,28 +149,29 @@ shorter-by gaps g old x inside range is less within =
     (first.0 ++ e ∷ [], LeadsBy-append (λ (k : Link). k.from) (λ (k : Link). k.to) no_link list.links from first.0 k.from (e ∷ []) k.to first.1 (found.1, refl, refl), omega (arith, ints)))
     inside is)
 
--- A node is at most as far as node 0, from which the walk of its potential leads to it.
-module _ (now : List ℤ) (v : ℕ) (inside : v < length now) (range : AreInRange now) (some : 0 < length now) (more : value_at now 0 <ℤ value_at now v) where
+-- A node is at most as far as the hub, from which the walk of its potential leads to it.
+module _ (now : List ℤ) (hub v : ℕ) (inside : v < length now) (range : AreInRange now) (some : hub < length now) (more : value_at now hub <ℤ value_at now v) where
   abbrev home : ℤ
-  home = value_at now 0
+  home = value_at now hub
 
-  pub home-same : value_at (slice_set now v home) 0 ≡ home
-  home-same = apart now v home inside range (range 0 some).0 more 0 (λ e. let same = ap (λ (n : ℕ). value_at now n) e in omega (arith, ints))
+  pub home-same : value_at (slice_set now v home) hub ≡ home
+  home-same = apart now v home inside range (range hub some).0 more hub (λ e. let same = ap (λ (n : ℕ). value_at now n) e in omega (arith, ints))
 
   pub home-next : ((k : ℕ) → k < v → value_at now k ≤ℤ home) → (k : ℕ) → k < v + 1 → value_at (slice_set now v home) k ≤ℤ home
-  home-next before k h = each-node now v home inside range (range 0 some).0 more (λ u y. y ≤ℤ home) (omega (arith, ints)) k (λ e. before k (omega arith))
+  home-next before k h = each-node now v home inside range (range hub some).0 more (λ u y. y ≤ℤ home) (omega (arith, ints)) k (λ e. before k (omega arith))
 
-  pub home-shorter : (gaps : List ReducedCost) → AreShorter gaps now (slice_set now v home)
-  home-shorter gaps = set-shorter now v home inside range (range 0 some).0 more gaps
+  pub home-shorter : (gaps : List ReducedCost) → AreShorter hub gaps now (slice_set now v home)
+  home-shorter gaps = set-shorter now v home inside range (range hub some).0 more hub gaps
       (λ list at potentials from are count d near.
-      let back = d.walked 0 (omega arith) near in
-      let forth = are.potentials_are.greatest.asked v (omega arith) in
+      let back = d.walked hub (omega arith) near in
+      let forth = are.greatest.asked v (omega arith) in
+      let here = are.greatest.here in
       let sum = asked-on at list.links back.0 forth.0 in
-      (back.0 ++ forth.0, LeadsBy-append (λ (k : Link). k.from) (λ (k : Link). k.to) no_link list.links from back.0 0 forth.0 v back.1 forth.1, omega (arith, ints)))
+      (back.0 ++ forth.0, LeadsBy-append (λ (k : Link). k.from) (λ (k : Link). k.to) no_link list.links from back.0 hub forth.0 v back.1 forth.1, omega (arith, ints)))
 
 -- distances that are the least stand for the values of the greatest walks
-module _ (list : Constraints) (at : Ratio) (potentials : List ℤ) (gaps : List ReducedCost) (from : ℕ) (distances values : List ℤ) (are : AreGaps list at potentials gaps)
-    (count : length distances ≡ list.nodes) (inside : from < list.nodes) (short : AreShortest gaps from distances)
+module _ (list : Constraints) (at : Ratio) (hub : ℕ) (potentials : List ℤ) (gaps : List ReducedCost) (from : ℕ) (distances values : List ℤ) (are : AreGaps list at hub potentials gaps)
+    (count : length distances ≡ list.nodes) (inside : from < list.nodes) (short : AreShortest hub gaps from distances)
     (values_are : (node : ℕ) → node < list.nodes → value_at values node ≡ value_at potentials node -ℤ value_at potentials from -ℤ value_at distances node)
   where
     d : AreDistances list at potentials from distances
@@ -211,10 +212,10 @@ begun-distances list at potentials from distances count here others = record {
       (cases_eq node from);
 }
 
-pub settled-by : (t : Timing) (list : Constraints) (at : Ratio) (potentials : List ℤ) (gaps : List ReducedCost) (l : ℕ) (distances values : List ℤ) → list ≡ constraints_of (node_count t.flat) (links_of t) →
-    AreGaps list at potentials gaps → length distances ≡ list.nodes → element_node t.flat l < list.nodes → AreShortest gaps (element_node t.flat l) distances → length values ≡ length distances →
+pub settled-by : (t : Timing) (list : Constraints) (at : Ratio) (hub : ℕ) (potentials : List ℤ) (gaps : List ReducedCost) (l : ℕ) (distances values : List ℤ) → list ≡ constraints_of (node_count t.flat) (links_of t) →
+    AreGaps list at hub potentials gaps → length distances ≡ list.nodes → element_node t.flat l < list.nodes → AreShortest hub gaps (element_node t.flat l) distances → length values ≡ length distances →
     ((node : ℕ) → node < length distances → value_at values node ≡ value_at potentials node -ℤ value_at potentials (element_node t.flat l) -ℤ value_at distances node) → AreSettled t at l values
-settled-by t list at potentials gaps l distances values links are count inside short long values_are =
+settled-by t list at hub potentials gaps l distances values links are count inside short long values_are =
     let values_at : (node : ℕ) → node < list.nodes → value_at values node ≡ value_at potentials node -ℤ value_at potentials (element_node t.flat l) -ℤ value_at distances node =
     λ node h. values_are node (omega arith) in
     let nodes = ap (λ (c : Constraints). c.nodes) links in
@@ -227,5 +228,5 @@ settled-by t list at potentials gaps l distances values links are count inside s
           let to = small node (omega arith) in
           let from = small (element_node t.flat l) inside in
           subst (IsWithin 200000000000000000) (sym (values_at node (omega arith))) (omega (arith, ints), omega (arith, ints));
-      from = are_from t list links at l [] values (are-greatest list at potentials gaps (element_node t.flat l) distances values are count inside short values_at (long ∙ count));
+      from = are_from t list links at l [] values (are-greatest list at hub potentials gaps (element_node t.flat l) distances values are count inside short values_at (long ∙ count));
     }

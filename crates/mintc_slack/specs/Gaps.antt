@@ -3,6 +3,7 @@ use Rattle.std.specs.Prelude.{◌≡◌, ◌<◌, ℕ, ℤ, pos, ◌-ℤ◌, ◌
 use Rattle.std.specs.List.Sorted.{IsPermutation}
 use Rattle.mintc_fraction.specs.Ratio.{Ratio}
 use Rattle.mintc_timing.specs.declared.link.Link.{Link}
+use Rattle.mintc_timing.specs.Links.{IsMet}
 use Rattle.mintc_constraints.specs.Ordinary.{Constraints, IsOrdinary}
 use Rattle.mintc_ratio.specs.From.{AreGreatestFrom, IsAsked}
 use Rattle.mintc_ratio.specs.Greatest.{asked_by_link}
@@ -16,20 +17,24 @@ use Rattle.mintc_graph_walks.specs.Walks.{value_at}
 abbrev pub gap_of : Ratio → List ℤ → Link → ReducedCost
 gap_of at potentials k = record {
   from = k.from;
-  to = k.to;
   rest = value_at potentials k.to -ℤ value_at potentials k.from -ℤ asked_by_link at k;
+  to = k.to;
 }
 
--- The values of the greatest walks from node 0 over ordinary links, as numerators over the cycle's denominator.
+-- Small values that meet each of the links, as numerators over the cycle's denominator, one for each node.
 pub record ArePotentials (list : Constraints) (at : Ratio) (potentials : List ℤ) : Type 0 where
   pub ordinary : IsOrdinary list
   pub cycle : IsShortCycle at
-  pub greatest : AreGreatestFrom list at 0 potentials
+  pub count : length potentials ≡ list.nodes
+  pub met : All (IsMet at.num at.den (value_at potentials)) list.links
   pub small : (node : ℕ) → node < list.nodes → IsWithin 30000000000000000 (value_at potentials node)
 
--- Over them the gaps are those of the links, in some order.
-pub record AreGaps (list : Constraints) (at : Ratio) (potentials : List ℤ) (gaps : List ReducedCost) : Type 0 where
+-- The potentials are the values of the greatest walks from the hub, and the gaps are those of the links over them, in
+-- some order.
+pub record AreGaps (list : Constraints) (at : Ratio) (hub : ℕ) (potentials : List ℤ)
+    (gaps : List ReducedCost) : Type 0 where
   pub potentials_are : ArePotentials list at potentials
+  pub greatest : AreGreatestFrom list at hub potentials
   pub permutation : IsPermutation (map (gap_of at potentials) list.links) gaps
 
 -- The gap leads from one of so many nodes to one of them, and is from 0 to FAR.
@@ -54,11 +59,11 @@ pub record AreDistances (list : Constraints) (at : Ratio) (potentials : List ℤ
 
 -- Distances in place of others: they are from 0 to FAR, as many, and whatever the gaps are those of, distances of
 -- walks where the others were.
-pub record AreShorter (gaps : List ReducedCost) (old new : List ℤ) : Type 0 where
+pub record AreShorter (hub : ℕ) (gaps : List ReducedCost) (old new : List ℤ) : Type 0 where
   pub range : AreInRange new
   pub count : length new ≡ length old
-  pub kept : (list : Constraints) (at : Ratio) (potentials : List ℤ) (from : ℕ) → AreGaps list at potentials gaps →
-      length old ≡ list.nodes →
+  pub kept : (list : Constraints) (at : Ratio) (potentials : List ℤ) (from : ℕ) →
+      AreGaps list at hub potentials gaps → length old ≡ list.nodes →
       AreDistances list at potentials from old → AreDistances list at potentials from new
 
 -- No gap makes the distance of its end less.
@@ -66,9 +71,9 @@ abbrev pub AreLeast : List ReducedCost → List ℤ → Type 0
 AreLeast gaps distances = All (λ g. value_at distances g.to ≤ℤ (value_at distances g.from +ℤ g.rest)) gaps
 
 -- Distances from a node that are the least, and none of them is far.
-pub record AreShortest (gaps : List ReducedCost) (from : ℕ) (distances : List ℤ) : Type 0 where
+pub record AreShortest (hub : ℕ) (gaps : List ReducedCost) (from : ℕ) (distances : List ℤ) : Type 0 where
   pub near : (node : ℕ) → node < length distances → (pos 0 ≤ℤ value_at distances node)
       × (value_at distances node <ℤ FAR)
   pub least : AreLeast gaps distances
-  pub walked : (list : Constraints) (at : Ratio) (potentials : List ℤ) → AreGaps list at potentials gaps →
+  pub walked : (list : Constraints) (at : Ratio) (potentials : List ℤ) → AreGaps list at hub potentials gaps →
       length distances ≡ list.nodes → AreDistances list at potentials from distances

@@ -1,5 +1,6 @@
 -- What walks from elements begin with.
-use Rattle.std.specs.Prelude.{◌≡◌, ◌≤◌, length}
+use Rattle.std.specs.Prelude.{◌≡◌, ◌<◌, ◌≤◌, length}
+use Rattle.std.specs.Bool.{OnTrue}
 use Rattle.mintc_fraction.specs.Ratio.{Ratio}
 use Rattle.mintc_timing.specs.Design.{Timing}
 use Rattle.mintc_timing.specs.Links.{links_of, node_count}
@@ -7,8 +8,10 @@ use Rattle.mintc_constraints.specs.Ordinary.{Constraints, constraints_of}
 use Rattle.mintc_slack.specs.Short.{IsShortCycle, most_short}
 use Rattle.mintc_slack.specs.declared.walked.SlackWalks.{SlackWalks}
 use Rattle.mintc_slack.specs.Gaps.{AreGaps}
+use Rattle.mintc_slack.specs.Rows.{AreInRows}
 
--- The walker is over the links of a timing at this cycle time, with a distance for each node.
+-- The walker is over the links of a timing at this cycle time, with a distance for each node; and its gaps stand in
+-- their rows where it says so.
 pub record IsReady (t : Timing) (list : Constraints) (at : Ratio) (w : SlackWalks) : Type 0 where
   pub system : w.system.now ≡ t
   pub list_is : w.list.now ≡ list
@@ -16,5 +19,7 @@ pub record IsReady (t : Timing) (list : Constraints) (at : Ratio) (w : SlackWalk
   pub links : list ≡ constraints_of (node_count t.flat) (links_of t)
   pub cycle : IsShortCycle at
   pub short : list.nodes ≤ most_short
-  pub gaps : AreGaps list at w.potentials.items w.gaps.items
+  pub hub : w.hub < list.nodes
+  pub gaps : AreGaps list at w.hub w.potentials.items w.rows.gaps.items
+  pub rows : OnTrue w.in_rows (AreInRows w.rows.gaps.items w.rows.firsts.items)
   pub count : length w.distances.items ≡ list.nodes

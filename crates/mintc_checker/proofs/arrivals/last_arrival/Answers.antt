@@ -13,12 +13,11 @@ pub loop-lane-preserved : goal.loop-lane-preserved
 loop-lane-preserved c = record {
   last_so_far = λ d labels.
       let lane : ℕ = c.loop-lane.lane in
-      let inside : input_of c.args.number < length c.args.labels.now = omega arith in
       let below : lane < 8 = omega arith in
       subst (λ o. IsLastUpTo c.args.clocked.now.flat.now c.args.clocked.now.schedule.now d (lane + 1) c.args.number c.element.result.now.phase o) (sym (c.later-last.ensures.value ∙ ap (λ o. joined int_max c.loop-lane.last o (to_z w64 (of_z w64 c.shift-add.result))) c.label_in.ensures))
       (last-more c.args.clocked.now.flat.now c.element.ensures.kept c.args.clocked.now.schedule.now d c.args.number c.element.result.now.phase lane c.loop-lane.last (label_at c.args.labels.now (input_of c.args.number) lane) _
       (read_time c.shift-add.result (IsTime-IsModest _ c.shift-add.ensures.range) ∙ c.shift-add.ensures.value)
-      (c.loop-lane.invariant.last_so_far d labels) (labels.each (input_of c.args.number) lane inside below));
+      (c.loop-lane.invariant.last_so_far d labels) (labels.each c.args.number lane c.requires.number below));
   range = c.later-last.ensures.range;
 }
 

@@ -1,8 +1,7 @@
-use Rattle.std.proofs.Common.{◌<◌, ◌+ℤ◌, ◌≤ℤ◌, ℕ, get_or}
-use Rattle.mintc_graph_walks.specs.Walks.{value_at}
-use Rattle.mintc_slack.specs.declared.reduced_costs.ReducedCost.{ReducedCost}
+use Rattle.std.proofs.Common.{◌<◌, ℕ}
+use Rattle.mintc_slack.specs.Rows.{IsRowLeast}
 use Rattle.mintc_slack.proofs.nearest.are_least.Given as goal
 
--- the gaps before this one make no distance less
-abbrev pub invariant-loop-gap : goal.invariant-loop-gap
-invariant-loop-gap l = (k : ℕ) (d : ReducedCost) → k < l.gap-index → value_at l.distances (get_or l.gaps k d).to ≤ℤ (value_at l.distances (get_or l.gaps k d).from +ℤ (get_or l.gaps k d).rest)
+-- the rows of the nodes below this one make no distance less
+abbrev pub invariant-loop-node : goal.invariant-loop-node
+invariant-loop-node l = (k : ℕ) → k < l.node → IsRowLeast l.rows.gaps.items k l.distances

@@ -6,8 +6,8 @@ use Rattle.mintc_slack.proofs.GapLaws.{far_is, shorter-by}
 use Rattle.mintc_slack.proofs.SizeLaws.{read_narrow}
 use Rattle.mintc_slack.proofs.nearest.shorten.Goals as goal
 
-pub returns-then-distance-index-2-clause-shorter : goal.returns-then-distance-index-2-clause-shorter
-returns-then-distance-index-2-clause-shorter c gaps within =
+pub returns-then-distance-index-clause-shorter : goal.returns-then-distance-index-clause-shorter
+returns-then-distance-index-clause-shorter c hub gaps within =
     let g = c.args.gap in
     let old = c.args.distances.now.items in
     let inside = c.requires.inside in
@@ -18,4 +18,4 @@ returns-then-distance-index-2-clause-shorter c gaps within =
     let end_is : c.index-2.result.now ≡ value_at old g.to = c.index-2.ensures ∙ get_or_default old g.to c.index-2.result.now (pos 0) inside.to in
     let is : c.sum-distance.result ≡ value_at old g.from +ℤ g.rest = omega (arith, ints) in
     let read = read_narrow c.sum-distance.result (omega (arith, ints), omega (arith, ints)) in
-    rw read (shorter-by gaps g old c.sum-distance.result inside c.requires.range is (omega (arith, ints)) within)
+    rw read (shorter-by hub gaps g old c.sum-distance.result inside c.requires.range is (omega (arith, ints)) within)

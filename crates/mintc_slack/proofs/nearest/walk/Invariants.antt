@@ -3,4 +3,4 @@ use Rattle.mintc_slack.proofs.nearest.walk.Given as goal
 
 -- the distances so far
 abbrev pub invariant-loop-step : goal.invariant-loop-step
-invariant-loop-step l = AreShorter l.gaps l.fn.distances.items l.distances.items
+invariant-loop-step l = AreShorter l.hub l.rows.gaps.items l.fn.distances.items l.distances.items

@@ -11,8 +11,8 @@ pub shortest_distances-requires-clause-gaps : goal.shortest_distances-requires-c
 shortest_distances-requires-clause-gaps g c =
     let w = c.args.walker.now in
     let ready = c.requires.ready in
-    subst (λ n. All (IsInside n) w.gaps.items) (sym ready.count)
-    (inside-all w.list.now w.at.now w.potentials.items ready.gaps.potentials_are w.gaps.items ready.gaps.permutation)
+    subst (λ n. All (IsInside n) w.rows.gaps.items) (sym ready.count)
+    (inside-all w.list.now w.at.now w.potentials.items ready.gaps.potentials_are w.rows.gaps.items ready.gaps.permutation)
 
 pub returns-then-branch-clause-settled : goal.returns-then-branch-clause-settled
 returns-then-branch-clause-settled g c =
@@ -23,8 +23,8 @@ returns-then-branch-clause-settled g c =
     let nodes = ap (λ (l : Constraints). l.nodes) ready.links in
     let at_node = rw c.flat.ensures.value at c.element_node-node.ensures.value in
     let short = OnTrue_at c.if-branch.true c.in_ok-shortest_distances.ensures.shortest in
-    settled-by w.system.now w.list.now w.at.now w.potentials.items w.gaps.items c.args.number v.distances.items c.write.new.room.values ready.links ready.gaps
+    settled-by w.system.now w.list.now w.at.now w.hub w.potentials.items w.rows.gaps.items c.args.number v.distances.items c.write.new.room.values ready.links ready.gaps
     (c.shortest_distances.ensures.count ∙ ready.count) (omega arith)
-    (rw at_node at (subst (λ gaps. AreShortest gaps c.element_node-node.result v.distances.items) (ap (λ (x : SlackWalks). x.gaps.items) kept) short))
+    (rw at_node at (subst (λ (x : SlackWalks). AreShortest x.hub x.rows.gaps.items c.element_node-node.result v.distances.items) kept short))
     (rw c.deref-then-branch.ensures.value at c.write.ensures.count)
     (rw (c.deref.ensures.value, c.deref-then-branch.ensures.value, at_node, ap (λ (x : SlackWalks). x.potentials.items) kept) at c.write.ensures.values)

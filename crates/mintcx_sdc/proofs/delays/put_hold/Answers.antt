@@ -14,8 +14,8 @@ returns-then-not-output c =
     let l = c.args.output.now in
     no_line c.args.lines.now l.has_hold (delay_line c.args.phases.now Out l (codes " -min ") (neg_ℤ l.hold)) c.if-not-output.true
 
-pub turned_hold-requires : goal.turned_hold-requires
-turned_hold-requires c = listed_hold (length c.args.phases.now) c.args.output.now c.requires
+pub turned_hold-hold-requires : goal.turned_hold-hold-requires
+turned_hold-hold-requires c = listed_hold (length c.args.phases.now) c.args.output.now c.requires
 
 pub returns : goal.returns
 returns c =
