@@ -2,8 +2,9 @@
 use Rattle.std.proofs.Common.{◌≡◌, ℕ, List, refl, sym, subst, Option, Some, None, Result, Ok, Err, IfOk, IfErr}
 use Rattle.mintc_text.specs.declared.limits.Most.{Most}
 use Rattle.mintc_text.specs.declared.refusals.Refusal.{Refusal}
+use Rattle.mintc_text.specs.declared.refusals.Refusal.TheVariants as refusal
 use Rattle.mintc_text.specs.declared.refusals.Role.{Role}
-use Rattle.mintc_timing.specs.Design.{Timing}
+use Rattle.mintc_timing.specs.Design.{Design, Timing}
 use Rattle.mintc_timing.specs.declared.clocking.Schedule.{Schedule}
 use Rattle.mintc_certificate.specs.declared.certificate.Certificate.{Certificate}
 use Rattle.mintc_certificate.specs.declared.certificate.Certificate.TheVariants as certificate
@@ -19,7 +20,7 @@ use Rattle.mintc_command_answers.specs.Answers.{IsFirstRefusal, IsOfCommand, too
 use Rattle.mintc_command_answers.specs.Commands.{roles_of}
 use Rattle.mintc_command_answers.specs.Corners.{IsFirstRefused, corner_status, corners_of}
 use Rattle.mintc_command_answers.specs.Jobs.{certificate_status, safe_status, slack_status, verdict_status}
-use Rattle.mintc_command_answers.specs.Sources.{AreShort, Gives, IsLengthRefusal, own_file}
+use Rattle.mintc_command_answers.specs.Sources.{AreShort, IsLengthRefusal, own_file}
 use Rattle.mintc_command_answers.specs.declared.answer.Answer.{Answer}
 use Rattle.mintc_command_answers.specs.declared.command.Command.{Command}
 use Rattle.mintc_command_answers.specs.declared.command.Command.TheVariants.{OfDesign, Sample, Corners}
@@ -34,36 +35,49 @@ use Rattle.mintcx_cycles.specs.declared.cycles.AtCycle.TheVariants as at
 use Rattle.mintcx_translation.specs.declared.calls.Aspect.{Aspect}
 use Rattle.mintcx_translation.specs.declared.calls.Aspect.TheVariants as aspect
 use Rattle.mintcx_answers.specs.declared.halts.Halt.{Halt}
+use Rattle.mintcx_answers.specs.declared.halts.Halt.TheVariants as halt
 use Rattle.mintcx_answers.specs.Halts.{HaltsAt}
+use Rattle.mintcx_answers.specs.Shown.{IsFirstRefusalFor, IsSystemFor}
+use Rattle.mintcx_answers.proofs.ShownLaws.{corners_first, design_length}
 use Rattle.mintcx_answers.specs.Answers.{HasAnswer, IsContentAnswer, IsJobAnswer, IsJudgement, IsOnFiles, IsOptimiseAnswer, IsToldReport, IsVerifyAnswer, certified_status, cycle_status, name_beside}
 
 -- In a run with these limits.
 module _ (most : Most) where
-  -- what is answered on the texts of a design and on the text beside them
-  pub answer_on_file : {E : Type 0} (r : Result Answer E) (job : Job) (told : Aspect) (beside : List (List ℕ)) (source : Source) (texts : List (List ℕ)) (t : Timing) (file : List ℕ) (view : View) →
-      Gives most source texts t → file ≡ own_file source texts → IfOk r (λ (a : Answer). IsJobAnswer most job told beside t file view a.status a.text) →
-      IfOk r (λ (a : Answer). IsContentAnswer most (OfDesign job source) told beside texts view a.status a.text)
-  answer_on_file (Err e) job told beside source texts t file view gives same h = tt
-  answer_on_file (Ok a) job told beside source texts t file view gives same h = (t, gives, subst (λ f. IsJobAnswer most job told beside t f view a.status a.text) same h)
+  -- what is answered on a design and on the text beside it
+  pub answer_on_file : {E : Type 0} (r : Result Answer E) (shown : Option Design) (job : Job) (told : Aspect) (beside : List (List ℕ)) (source : Source) (texts : List (List ℕ)) (t : Timing) (file : List ℕ) (view : View) →
+      IsSystemFor most shown source texts t → file ≡ own_file source texts → IfOk r (λ (a : Answer). IsJobAnswer most job told beside t file view a.status a.text) →
+      IfOk r (λ (a : Answer). IsContentAnswer most shown (OfDesign job source) told beside texts view a.status a.text)
+  answer_on_file (Err e) shown job told beside source texts t file view gives same h = tt
+  answer_on_file (Ok a) shown job told beside source texts t file view gives same h = (t, gives, subst (λ f. IsJobAnswer most job told beside t f view a.status a.text) same h)
 
-  -- so it is for a command that is of a design
-  pub answered : {E : Type 0} (r : Result Answer E) (command own : Command) (told : Aspect) (beside texts : List (List ℕ)) (view : View) → command ≡ own → AreShort most texts →
-      IfOk r (λ (a : Answer). IsContentAnswer most own told beside texts view a.status a.text) → IfOk r (λ (a : Answer). HasAnswer most command told beside texts view a.status a.text)
-  answered (Err e) command own told beside texts view is short h = tt
-  answered (Ok a) command own told beside texts view is short h =
-      let same : HasAnswer most own told beside texts view a.status a.text = (short, h) in
-      subst (λ (x : Command). HasAnswer most x told beside texts view a.status a.text) (sym is) same
+  -- so it is for a command that is of corners, whatever design is at hand
+  pub answered : {E : Type 0} (r : Result Answer E) (shown : Option Design) (command : Command) (count : ℕ) (told : Aspect) (beside texts : List (List ℕ)) (view : View) → command ≡ Corners count → AreShort most texts →
+      IfOk r (λ (a : Answer). IsContentAnswer most None (Corners count) told beside texts view a.status a.text) → IfOk r (λ (a : Answer). HasAnswer most shown command told beside texts view a.status a.text)
+  answered (Err e) shown command count told beside texts view is short h = tt
+  answered (Ok a) shown command count told beside texts view is short h =
+      let same : HasAnswer most shown (Corners count) told beside texts view a.status a.text = (short, h) in
+      subst (λ (x : Command). HasAnswer most shown x told beside texts view a.status a.text) (sym is) same
 
   -- and so is why there is none
-  pub halted : {A : Type 0} (r : Result A Halt) (command own : Command) (texts : List (List ℕ)) → command ≡ own →
-      IfErr r (HaltsAt (IsFirstRefusal most own texts) (IsFirstRefused most (corners_of texts) 1)) → IfErr r (HaltsAt (IsFirstRefusal most command texts) (IsFirstRefused most (corners_of texts) 1))
-  halted r command own texts is h = subst (λ (x : Command). IfErr r (HaltsAt (IsFirstRefusal most x texts) (IsFirstRefused most (corners_of texts) 1))) (sym is) h
+  of_corners_halt : (shown : Option Design) (count : ℕ) (texts : List (List ℕ)) (why : Halt) → HaltsAt (IsFirstRefusal most (Corners count) texts) (IsFirstRefused most (corners_of texts) 1) why →
+      HaltsAt (IsFirstRefusalFor most shown (Corners count) texts) (IsFirstRefused most (corners_of texts) 1) why
+  of_corners_halt shown count texts (halt.Refused refused) h = corners_first most shown count texts refused h
+  of_corners_halt shown count texts (halt.Corner corner own) (first, rest) = (corners_first most shown count texts (refusal.Corner corner) first, rest)
+  of_corners_halt shown count texts halt.OutOfMemory h = tt
 
-  pub refused_length : (command : Command) (texts : List (List ℕ)) (roles : List Role) (refused : Refusal) → IsOnFiles command → roles ≡ roles_of command →
-      IsLengthRefusal most roles texts refused → IsFirstRefusal most command texts refused
-  refused_length (OfDesign job source) texts roles refused on same h = too_long (subst (λ (x : List Role). IsLengthRefusal most x texts refused) same h)
-  refused_length (Sample number) texts roles refused on same h = absurd (on number refl)
-  refused_length (Corners count) texts roles refused on same h = too_long (subst (λ (x : List Role). IsLengthRefusal most x texts refused) same h)
+  pub halted : {A : Type 0} (r : Result A Halt) (shown : Option Design) (command : Command) (count : ℕ) (texts : List (List ℕ)) → command ≡ Corners count →
+      IfErr r (HaltsAt (IsFirstRefusal most (Corners count) texts) (IsFirstRefused most (corners_of texts) 1)) →
+      IfErr r (HaltsAt (IsFirstRefusalFor most shown command texts) (IsFirstRefused most (corners_of texts) 1))
+  halted (Ok a) shown command count texts is h = tt
+  halted (Err why) shown command count texts is h =
+      subst (λ (x : Command). HaltsAt (IsFirstRefusalFor most shown x texts) (IsFirstRefused most (corners_of texts) 1) why) (sym is) (of_corners_halt shown count texts why h)
+
+  pub refused_length : (shown : Option Design) (command : Command) (texts : List (List ℕ)) (roles : List Role) (refused : Refusal) → IsOnFiles command → roles ≡ roles_of command →
+      IsLengthRefusal most roles texts refused → IsFirstRefusalFor most shown command texts refused
+  refused_length shown (OfDesign job source) texts roles refused on same h = design_length most shown job source texts roles refused same h
+  refused_length shown (Sample number) texts roles refused on same h = absurd (on number refl)
+  refused_length shown (Corners count) texts roles refused on same h =
+      corners_first most shown count texts refused (too_long (subst (λ (x : List Role). IsLengthRefusal most x texts refused) same h))
 
   -- ---- the status of an answer
 
@@ -153,12 +167,13 @@ module _ (most : Most) where
   of_corners (joint.Least s ds m) = tt
   of_corners (joint.Never m) = tt
 
-  of_content : (command : Command) (told : Aspect) (beside texts : List (List ℕ)) (view : View) (st : Status) (text : List ℕ) → IsContentAnswer most command told beside texts view st text → IsOfCommand st
-  of_content (OfDesign job source) told beside texts view st text (t, gives, h) = of_job job told beside t (own_file source texts) view st text h
-  of_content (Sample number) told beside texts view st text h = absurd h
-  of_content (Corners count) told beside texts view st text (ts, given, few, (c, optimum, same, rest)) = subst IsOfCommand (sym same) (of_corners c)
+  of_content : (shown : Option Design) (command : Command) (told : Aspect) (beside texts : List (List ℕ)) (view : View) (st : Status) (text : List ℕ) → IsContentAnswer most shown command told beside texts view st text →
+      IsOfCommand st
+  of_content shown (OfDesign job source) told beside texts view st text (t, gives, h) = of_job job told beside t (own_file source texts) view st text h
+  of_content shown (Sample number) told beside texts view st text h = absurd h
+  of_content shown (Corners count) told beside texts view st text (ts, given, few, (c, optimum, same, rest)) = subst IsOfCommand (sym same) (of_corners c)
 
-  pub of_command : {E : Type 0} (r : Result Answer E) (command : Command) (told : Aspect) (beside texts : List (List ℕ)) (view : View) →
-      IfOk r (λ (a : Answer). IsContentAnswer most command told beside texts view a.status a.text) → IfOk r (λ (a : Answer). IsOfCommand a.status)
-  of_command (Err e) command told beside texts view h = tt
-  of_command (Ok a) command told beside texts view h = of_content command told beside texts view a.status a.text h
+  pub of_command : {E : Type 0} (r : Result Answer E) (shown : Option Design) (command : Command) (told : Aspect) (beside texts : List (List ℕ)) (view : View) →
+      IfOk r (λ (a : Answer). IsContentAnswer most shown command told beside texts view a.status a.text) → IfOk r (λ (a : Answer). IsOfCommand a.status)
+  of_command (Err e) shown command told beside texts view h = tt
+  of_command (Ok a) shown command told beside texts view h = of_content shown command told beside texts view a.status a.text h

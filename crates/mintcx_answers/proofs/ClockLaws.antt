@@ -1,13 +1,11 @@
 -- The clock of a design, and the clocks of a schedule.
-use Rattle.std.proofs.Common.{◌≡◌, ◌∙◌, ◌==◌, ℕ, ℤ, Bool, true, false, cond, List, length, map, Option, Some, None, Result, Ok, Err, IfErr, inl, inr, refl, ap, sym, subst}
+use Rattle.std.proofs.Common.{◌≡◌, ◌∙◌, ◌==◌, ℕ, ℤ, Bool, true, false, cond, List, length, map, Option, Some, None, IfSome, arith, refl, ap, sym, subst}
 use Rattle.std.proofs.lemmas.Bool.{eqb-true}
+use Rattle.std.proofs.lemmas.Bool.Decides.{nat_tests}
 use Rattle.std.proofs.lemmas.List.{length-map}
 use Rattle.mintc_text.specs.declared.limits.Most.{Most}
 use Rattle.mintc_text.specs.declared.refusals.Refusal.{Refusal}
 use Rattle.mintc_text.specs.declared.refusals.Refusal.TheVariants as refusal
-use Rattle.mintc_text.specs.declared.refusals.Stop.{Stop}
-use Rattle.mintc_text.specs.declared.refusals.Stop.TheVariants as stop
-use Rattle.mintc_text.specs.Stops.{StopsAt}
 use Rattle.mintc_timing.specs.Design.{Design, Timing, phase_count}
 use Rattle.mintc_timing.specs.declared.clocking.Schedule.{Schedule}
 use Rattle.mintc_certificate.specs.declared.certificate.Certificate.{Certificate}
@@ -21,17 +19,15 @@ use Rattle.mintc_clock.specs.Laws.{ClocksAreDetermined, ClocksAreNotRefused, Clo
 use Rattle.mintc_clock.specs.declared.clock.Clock.{Clock}
 use Rattle.mintc_clock.specs.declared.clock.PhaseDef.{PhaseDef}
 use Rattle.mintc_build.specs.FilesDesign.{CellText, IsDesignOver}
-use Rattle.mintc_command_answers.specs.Answers.{IsFirstRefusal, IsJobRefusal, of_contents}
-use Rattle.mintc_command_answers.specs.Sources.{AreShort, Gives, file_at}
-use Rattle.mintc_command_answers.specs.declared.command.Command.TheVariants.{OfDesign}
-use Rattle.mintc_command_answers.specs.declared.command.Job.{Job}
+use Rattle.mintc_command_answers.specs.Sources.{Gives, file_at}
 use Rattle.mintc_command_answers.specs.declared.command.Source.{Source}
 use Rattle.mintc_command_answers.specs.declared.command.Source.TheVariants.{Table, Files, Liberty}
 use Rattle.mintcx_frame.specs.declared.view.View.{View}
 use Rattle.mintcx_sdc.specs.Named.{named_clock, named_phase}
 use Rattle.mintcx_sdc.specs.declared.text.Titles.{Titles}
 use Rattle.mintcx_answers.specs.declared.clocks.Clocks.{Clocks}
-use Rattle.mintcx_answers.specs.Clocks.{IsByVerdict, IsChosen, IsClockIn, IsClockOf, IsOfCertificate, IsOfLeast, IsReadBeside, IsReadIn, of_phases}
+use Rattle.mintcx_answers.specs.Clocks.{IsByVerdict, IsChosen, IsClockFor, IsClockIn, IsClockOf, IsOfCertificate, IsOfLeast, IsReadIn, of_phases}
+use Rattle.mintcx_answers.specs.Shown.{IsSystemFor}
 
 -- ---- the clock
 
@@ -85,17 +81,36 @@ clocks_of_least t clock c s ds ms titles view v told is valid verdict h =
     let judged = subst (λ (y : Verdict). IsByVerdict t clock (Least s ds ms) titles view y told) (sym valid) own in
     (v, verdict, subst (λ (x : Certificate). IsByVerdict t clock x titles view v told) (sym is) judged)
 
--- what stops a job stops its command
-pub clocks_stopped : {A : Type 0} (most : Most) (r : Result A Stop) (job : Job) (source : Source) (texts : List (List ℕ)) → AreShort most texts → IfErr r (StopsAt (IsJobRefusal most job source texts)) →
-    IfErr r (StopsAt (IsFirstRefusal most (OfDesign job source) texts))
-clocks_stopped most (Ok a) job source texts short h = tt
-clocks_stopped most (Err (stop.Refused refused)) job source texts short h = of_contents short h
-clocks_stopped most (Err stop.OutOfMemory) job source texts short h = tt
+-- ---- the clock beside the design at hand, or that of the design that files give
 
--- ---- a clock description beside a table
+-- a clock has its own number of phases
+same_count : (own : Clock) (count : ℕ) (b : Bool) → length own.phases ≡ count → (length own.phases == count) ≡ b → cond b (Some own) None ≡ Some own
+same_count own count true same is = refl
+same_count own count false same is = grind (arith, nat_tests)
 
--- the clock that was read, where it has as many phases as the table, or that of the names of the table's phases
-module _ (t : Timing) (clock : Clock) where
+-- what is said of the clock of the design at hand, or of that of files
+pub record IsFittingFor (shown : Option Design) (from : Source) (files : List (List ℕ)) (t : Timing) (clock : Clock) : Type 0 where
+  pub value : IsClockFor shown from files t clock
+  pub limits : KeepsLimits clock
+  pub alike : length clock.phases ≡ phase_count t.flat
+
+-- what was read keeps its limits
+keeps_in : (files : List (List ℕ)) (from : Source) (read : Option Clock) → ClocksKeepLimits → IsClockIn from files read → IfSome read KeepsLimits
+keeps_in files Table read keep is = subst (λ (r : Option Clock). IfSome r KeepsLimits) (sym is) tt
+keeps_in files Files None keep is = tt
+keeps_in files Files (Some own) keep is = keep (file_at files 3) own is
+keeps_in files Liberty None keep is = tt
+keeps_in files Liberty (Some own) keep is = keep (file_at files 3) own is
+
+-- In a run with these limits.
+module _ (most : Most) (from : Source) (files : List (List ℕ)) (t : Timing) (clock : Clock) where
+  -- the clock of the design that files give has as many phases
+  own_phases : (read : Option Clock) → ClocksKeepLimits → ClocksAreDetermined → ClocksAreNotRefused → Gives most from files t → IsClockIn from files read → of_phases (phase_count t.flat) read ≡ read
+  own_phases None keep same not gives is = refl
+  own_phases (Some own) keep same not gives is =
+      let fits = clock_fits most from files t (Some own) own keep same not gives is (λ none. absurd (cc none)) refl in
+      same_count own (phase_count t.flat) (length own.phases == phase_count t.flat) fits.alike refl
+
   by_names : (clock ≡ named_clock t.flat.phases) → length clock.phases ≡ phase_count t.flat
   by_names own = ap (λ (x : Clock). length x.phases) own ∙ length-map t.flat.phases named_phase
 
@@ -105,8 +120,18 @@ module _ (t : Timing) (clock : Clock) where
       (subst KeepsLimits (sym chosen) keeps, ap (λ (x : Clock). length x.phases) chosen ∙ eqb-true (length own.phases) (phase_count t.flat) is)
   by_count own false is keeps chosen limits = (limits refl, by_names chosen)
 
-  pub beside_fits : (text : List ℕ) (read : Option Clock) → ClocksKeepLimits → IsReadBeside text read → IsChosen t (of_phases (phase_count t.flat) read) clock →
-      (of_phases (phase_count t.flat) read ≡ None → KeepsLimits clock) → KeepsLimits clock × (length clock.phases ≡ phase_count t.flat)
-  beside_fits text None keep is chosen limits = (limits refl, by_names chosen)
-  beside_fits text (Some own) keep (inl is) chosen limits = by_count own (length own.phases == phase_count t.flat) refl (keep text own is) chosen limits
-  beside_fits text (Some own) keep (inr long) chosen limits = absurd (cc long.1)
+  fits : (read : Option Clock) → IfSome read KeepsLimits → IsChosen t (of_phases (phase_count t.flat) read) clock → (of_phases (phase_count t.flat) read ≡ None → KeepsLimits clock) →
+      KeepsLimits clock × (length clock.phases ≡ phase_count t.flat)
+  fits None keeps chosen limits = (limits refl, by_names chosen)
+  fits (Some own) keeps chosen limits = by_count own (length own.phases == phase_count t.flat) refl keeps chosen limits
+
+  pub clock_for : (shown : Option Design) (read : Option Clock) → ClocksKeepLimits → ClocksAreDetermined → ClocksAreNotRefused → IsSystemFor most shown from files t → IsClockIn from files read →
+      (of_phases (phase_count t.flat) read ≡ None → KeepsLimits clock) → IsChosen t (of_phases (phase_count t.flat) read) clock → IsFittingFor shown from files t clock
+  clock_for None read keep same not gives is limits chosen =
+      let own = own_phases read keep same not gives is in
+      let h = clock_fits most from files t read clock keep same not gives is (subst (λ (r : Option Clock). r ≡ None → KeepsLimits clock) own limits)
+      (subst (λ (r : Option Clock). IsChosen t r clock) own chosen) in
+      record { value = h.value; limits = h.limits; alike = h.alike }
+  clock_for (Some design) read keep same not gives is limits chosen =
+      let h = fits read (keeps_in files from read keep is) chosen limits in
+      record { value = (read, is, chosen); limits = h.0; alike = h.1 }

@@ -6,3 +6,4 @@ mod CornerLaws
 mod PictureLaws
 mod VerdictLaws
 mod ClockLaws
+mod ShownLaws

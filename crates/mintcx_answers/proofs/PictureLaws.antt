@@ -1,8 +1,8 @@
 -- Pictures of optima, certificates and slacks.
-use Rattle.std.proofs.Common.{◌≡◌, ℕ, ℤ, List, sym, subst, Result, Ok, Err, IfOk}
+use Rattle.std.proofs.Common.{◌≡◌, ℕ, ℤ, List, sym, subst, Option, Result, Ok, Err, IfOk}
 use Rattle.mintc_text.specs.declared.limits.Most.{Most}
 use Rattle.mintc_fraction.specs.Ratio.{Ratio}
-use Rattle.mintc_timing.specs.Design.{Timing}
+use Rattle.mintc_timing.specs.Design.{Design, Timing}
 use Rattle.mintc_timing.specs.declared.clocking.Schedule.{Schedule}
 use Rattle.mintc_certificate.specs.declared.certificate.Certificate.{Certificate}
 use Rattle.mintc_certificate.specs.declared.certificate.Certificate.TheVariants.{Least, Never}
@@ -14,7 +14,7 @@ use Rattle.mintc_slack.specs.Answers.{IsSlackAnswer}
 use Rattle.mintc_slack.specs.declared.finding.Slacks.{Slacks}
 use Rattle.mintc_slack.specs.declared.finding.Slacks.TheVariants as slacks
 use Rattle.mintc_command_answers.specs.Jobs.{IsOptimum}
-use Rattle.mintc_command_answers.specs.Sources.{Gives, own_file}
+use Rattle.mintc_command_answers.specs.Sources.{own_file}
 use Rattle.mintc_command_answers.specs.declared.command.Source.{Source}
 use Rattle.mintcx_frame.specs.declared.view.View.{View}
 use Rattle.mintcx_optima.specs.Optimum.{IsOptimumText}
@@ -23,6 +23,7 @@ use Rattle.mintcx_draw.specs.Drawings.{IsDrawnOf}
 use Rattle.mintcx_histogram.specs.Pictures.{IsSlackDrawn}
 use Rattle.mintcx_answers.specs.declared.pictures.Motif.{Motif}
 use Rattle.mintcx_answers.specs.declared.pictures.Pictured.{Pictured}
+use Rattle.mintcx_answers.specs.Shown.{IsSystemFor}
 use Rattle.mintcx_answers.specs.Pictures.{AreShown, IsByVerdict, IsCertificateShown, IsDenied, IsOfFiles, IsOfMotif, IsOptimumShown, IsShowing, IsShown, IsSlackShown}
 
 -- ---- optima
@@ -67,8 +68,8 @@ slacks_shown_never t found view told is answer h =
 
 -- In a run with these limits.
 module _ (most : Most) where
-  -- what is drawn of the texts of a design and of the text beside them
-  pub shown_on_file : {E : Type 0} (r : Result Pictured E) (shows : Motif) (source : Source) (design : List ℕ) (view : View) (texts : List (List ℕ)) (t : Timing) (file : List ℕ) →
-      Gives most source texts t → file ≡ own_file source texts → IfOk r (IsOfMotif most shows design t file view) → IfOk r (IsOfFiles most shows source design view texts)
-  shown_on_file (Err e) shows source design view texts t file gives same h = tt
-  shown_on_file (Ok told) shows source design view texts t file gives same h = (t, gives, subst (λ (f : List ℕ). IsOfMotif most shows design t f view told) same h)
+  -- what is drawn of a design and of the text beside it
+  pub shown_on_file : {E : Type 0} (r : Result Pictured E) (shown : Option Design) (shows : Motif) (source : Source) (design : List ℕ) (view : View) (texts : List (List ℕ)) (t : Timing) (file : List ℕ) →
+      IsSystemFor most shown source texts t → file ≡ own_file source texts → IfOk r (IsOfMotif most shows design t file view) → IfOk r (IsOfFiles most shown shows source design view texts)
+  shown_on_file (Err e) shown shows source design view texts t file gives same h = tt
+  shown_on_file (Ok told) shown shows source design view texts t file gives same h = (t, gives, subst (λ (f : List ℕ). IsOfMotif most shows design t f view told) same h)

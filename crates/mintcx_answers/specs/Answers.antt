@@ -7,7 +7,7 @@ use Rattle.mintc_fraction.specs.Ratio.{Ratio, over}
 use Rattle.mintc_text.specs.Lines.{text_of}
 use Rattle.mintc_text.specs.declared.limits.Most.{Most}
 use Rattle.mintc_timing.specs.Departures.{AreEarly, AreExact, AreLate}
-use Rattle.mintc_timing.specs.Design.{Timing, element_count, phase_count}
+use Rattle.mintc_timing.specs.Design.{Design, Timing, element_count, phase_count}
 use Rattle.mintc_timing.specs.Violations.{AreViolations}
 use Rattle.mintc_timing.specs.declared.clocking.Schedule.{Schedule}
 use Rattle.mintc_timing.specs.declared.violation.Violation.{Violation}
@@ -28,7 +28,7 @@ use Rattle.mintc_corners.specs.declared.certificate.CornerCertificate.{CornerCer
 use Rattle.mintc_command_answers.specs.Corners.{AreGiven, corner_status, corners_of, elements_together}
 use Rattle.mintc_command_answers.specs.Jobs.{IsOptimum, IsScheduleOf, certificate_status, safe_status, slack_status}
 use Rattle.mintc_command_answers.specs.Jobs.{verdict_status}
-use Rattle.mintc_command_answers.specs.Sources.{AreShort, Gives, own_file}
+use Rattle.mintc_command_answers.specs.Sources.{AreShort, own_file}
 use Rattle.mintc_command_answers.specs.declared.command.Command.{Command}
 use Rattle.mintc_command_answers.specs.declared.command.Command.TheVariants.{OfDesign, Sample, Corners}
 use Rattle.mintc_command_answers.specs.declared.command.Job.{Job}
@@ -67,6 +67,7 @@ use Rattle.mintcx_slacks.specs.Slacks.{IsSlackText}
 use Rattle.mintcx_verdicts.specs.Verdicts.{IsVerdictText}
 use Rattle.mintcx_translation.specs.declared.calls.Aspect.{Aspect}
 use Rattle.mintcx_translation.specs.declared.calls.Aspect.TheVariants as aspect
+use Rattle.mintcx_answers.specs.Shown.{IsSystemFor}
 
 -- ---- the judgement of a schedule
 
@@ -310,12 +311,14 @@ IsJobAnswer most Safe told beside t file view status text = IsSafeAnswer t told 
 IsJobAnswer most Slack told beside t file view status text = (element_count t.flat ≤ most.slack)
     × IsSlacksAnswer t told view status text
 
--- The answer of a command on texts of which none is refused; what stands beside its subject is called so.
-abbrev pub IsContentAnswer : Most → Command → Aspect → List (List ℕ) → List (List ℕ) → View → Status → List ℕ → Type 0
-IsContentAnswer most (OfDesign job from) told beside files view status text = (t : Timing) × Gives most from files t
-    × IsJobAnswer most job told beside t (own_file from files) view status text
-IsContentAnswer most (Sample number) told beside files view status text = ⊥
-IsContentAnswer most (Corners count) told beside files view status text =
+-- The answer of a command on texts of which none is refused, of the design at hand where there is one; what stands
+-- beside its subject is called so.
+abbrev pub IsContentAnswer : Most → Option Design → Command → Aspect → List (List ℕ) → List (List ℕ) → View → Status →
+    List ℕ → Type 0
+IsContentAnswer most shown (OfDesign job from) told beside files view status text = (t : Timing)
+    × IsSystemFor most shown from files t × IsJobAnswer most job told beside t (own_file from files) view status text
+IsContentAnswer most shown (Sample number) told beside files view status text = ⊥
+IsContentAnswer most shown (Corners count) told beside files view status text =
     (ts : List Timing) × AreGiven most (corners_of files) ts × (elements_together ts ≤ most.elements)
     × IsCornersAnswer ts told beside view status text
 
@@ -328,14 +331,16 @@ abbrev pub AreNamed : Command → List (List ℕ) → Type 0
 AreNamed (Corners count) beside = length beside ≡ count
 AreNamed command beside = Unit {0}
 
--- The answer for people to a command, on the bytes of its files, of which none is refused: the status, which is mintc's
--- where the whole is told, and the text of what is found, shown in this view.
-abbrev pub HasAnswer : Most → Command → Aspect → List (List ℕ) → List (List ℕ) → View → Status → List ℕ → Type 0
-HasAnswer most command told beside files view status text = AreShort most files
-    × IsContentAnswer most command told beside files view status text
+-- The answer for people to a command, on the bytes of its files, of which none is refused, and of the design at hand
+-- where there is one: the status, which is mintc's where the whole is told, and the text of what is found, shown in
+-- this view.
+abbrev pub HasAnswer : Most → Option Design → Command → Aspect → List (List ℕ) → List (List ℕ) → View → Status →
+    List ℕ → Type 0
+HasAnswer most shown command told beside files view status text = AreShort most files
+    × IsContentAnswer most shown command told beside files view status text
 
--- The answer for people to `optimise` on the bytes of its files, of which none is refused: the status, the text of what
--- is found, shown in this view, and the text of its certificate.
-abbrev pub HasCertificate : Most → Source → List (List ℕ) → View → Status → List ℕ → List ℕ → Type 0
-HasCertificate most from files view status text written = AreShort most files
-    × ((t : Timing) × Gives most from files t × IsCertifiedAnswer t view status text written)
+-- The answer for people to `optimise` on the bytes of its files, of which none is refused, and of the design at hand
+-- where there is one: the status, the text of what is found, shown in this view, and the text of its certificate.
+abbrev pub HasCertificate : Most → Option Design → Source → List (List ℕ) → View → Status → List ℕ → List ℕ → Type 0
+HasCertificate most shown from files view status text written = AreShort most files
+    × ((t : Timing) × IsSystemFor most shown from files t × IsCertifiedAnswer t view status text written)

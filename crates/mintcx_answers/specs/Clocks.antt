@@ -4,9 +4,8 @@ use Rattle.std.specs.Prelude.{◌==◌, Option, Some, None, length, if◌then◌
 use Rattle.mintc_fraction.specs.Ratio.{IsCeiling, over}
 use Rattle.mintc_text.specs.Lines.{text_of}
 use Rattle.mintc_text.specs.declared.limits.Most.{Most}
-use Rattle.mintc_text.specs.declared.limits.TheConstants.{MOST_BYTES}
 use Rattle.mintc_text.specs.declared.refusals.Refusal.{Refusal}
-use Rattle.mintc_timing.specs.Design.{Timing, phase_count}
+use Rattle.mintc_timing.specs.Design.{Design, Timing, phase_count}
 use Rattle.mintc_timing.specs.Violations.{AreViolations}
 use Rattle.mintc_timing.specs.declared.clocking.Schedule.{Schedule}
 use Rattle.mintc_timing.specs.declared.violation.Broken.{Broken}
@@ -22,7 +21,7 @@ use Rattle.mintc_checker.specs.declared.verdict.Verdict.TheVariants as verdict
 use Rattle.mintc_clock.specs.ClockOf.{IsClock, IsClockRefusal}
 use Rattle.mintc_clock.specs.declared.clock.Clock.{Clock}
 use Rattle.mintc_command_answers.specs.Jobs.{IsScheduleOf}
-use Rattle.mintc_command_answers.specs.Sources.{AreShort, Gives, file_at, own_file}
+use Rattle.mintc_command_answers.specs.Sources.{AreShort, file_at, own_file}
 use Rattle.mintc_command_answers.specs.declared.command.Command.{Command}
 use Rattle.mintc_command_answers.specs.declared.command.Command.TheVariants.{OfDesign}
 use Rattle.mintc_command_answers.specs.declared.command.Job.{Job}
@@ -36,6 +35,7 @@ use Rattle.mintcx_sdc.specs.Obstacles.{obstacle_in}
 use Rattle.mintcx_sdc.specs.Texts.{sdc_lines}
 use Rattle.mintcx_sdc.specs.declared.text.Titles.{Titles}
 use Rattle.mintcx_answers.specs.Answers.{IsFail, IsToldVerdict}
+use Rattle.mintcx_answers.specs.Shown.{IsSystemFor}
 use Rattle.mintcx_answers.specs.declared.clocks.Clocks.{Clocks}
 use Rattle.mintcx_answers.specs.declared.clocks.Clocks.TheVariants.{Said, Unsaid, Denied}
 use Rattle.mintcx_answers.specs.declared.clocks.Stated.{Stated}
@@ -144,41 +144,27 @@ abbrev pub IsClockOf : Source → List (List ℕ) → Timing → Clock → Type 
 IsClockOf source.Table files t clock = clock ≡ named_clock t.flat.phases
 IsClockOf from files t clock = IsClock (file_at files 3) clock
 
--- The clocks of the schedule of a text beside those of a design, none of them too long.
-abbrev pub IsOfFiles : Most → Stated → Source → Titles → View → List (List ℕ) → Clocks → Type 0
-IsOfFiles most stated from titles view files told = (t : Timing) × Gives most from files t
-    × ((clock : Clock) × IsClockOf from files t clock
-    × IsOfText most stated t clock (own_file from files) titles view told)
-
--- The clocks of a schedule as SDC, on the bytes of its files, of which none is refused.
-abbrev pub HasClocks : Most → Stated → Source → Titles → View → List (List ℕ) → Clocks → Type 0
-HasClocks most stated from titles view files told =
-    AreShort most files × IsOfFiles most stated from titles view files told
-
--- ---- a table that is made of files, whose clock description stands beside
-
 -- a clock, where it has so many phases
 abbrev pub of_phases : ℕ → Option Clock → Option Clock
 of_phases count (Some clock) = if length clock.phases == count then Some clock else None
 of_phases count None = None
 
--- what is read of a clock description beside a table: nothing where it is too long
-abbrev pub IsReadBeside : List ℕ → Option Clock → Type 0
-IsReadBeside text read = IsReadIn text read ⊎ ((MOST_BYTES < length text) × (read ≡ None))
-
--- the clock of a description beside a table, where it has as many phases, or that of the names of the table's phases
-abbrev pub IsClockBeside : List ℕ → Timing → Clock → Type 0
-IsClockBeside text t clock = (read : Option Clock) × IsReadBeside text read
+-- The clock of the design that files give; or, beside a design at hand, that of their clock description, where it has
+-- as many phases, and else that of the names of the design's phases.
+abbrev pub IsClockFor : Option Design → Source → List (List ℕ) → Timing → Clock → Type 0
+IsClockFor None from files t clock = IsClockOf from files t clock
+IsClockFor (Some design) from files t clock = (read : Option Clock) × IsClockIn from files read
     × IsChosen t (of_phases (phase_count t.flat) read) clock
 
--- The clocks of the schedule of a text behind a table, with the clock description beside it, none of them too long.
-abbrev pub AreBeside : Most → Stated → List ℕ → Titles → View → List (List ℕ) → Clocks → Type 0
-AreBeside most stated text titles view files told = (t : Timing) × Gives most source.Table files t
-    × ((clock : Clock) × IsClockBeside text t clock
-    × IsOfText most stated t clock (own_file source.Table files) titles view told)
+-- The clocks of the schedule of a text beside those of a design, none of them too long, and of the design at hand where
+-- there is one.
+abbrev pub IsOfFiles : Most → Option Design → Stated → Source → Titles → View → List (List ℕ) → Clocks → Type 0
+IsOfFiles most shown stated from titles view files told = (t : Timing) × IsSystemFor most shown from files t
+    × ((clock : Clock) × IsClockFor shown from files t clock
+    × IsOfText most stated t clock (own_file from files) titles view told)
 
--- The clocks of a schedule as SDC, on the bytes of a table and of the file behind it, of which none is refused, with
--- the clock description beside them.
-abbrev pub HasClocksBeside : Most → Stated → List ℕ → Titles → View → List (List ℕ) → Clocks → Type 0
-HasClocksBeside most stated text titles view files told =
-    AreShort most files × AreBeside most stated text titles view files told
+-- The clocks of a schedule as SDC, on the bytes of its files, of which none is refused, and of the design at hand where
+-- there is one.
+abbrev pub HasClocks : Most → Option Design → Stated → Source → Titles → View → List (List ℕ) → Clocks → Type 0
+HasClocks most shown stated from titles view files told =
+    AreShort most files × IsOfFiles most shown stated from titles view files told

@@ -3,4 +3,5 @@ pub mod Answers
 pub mod Clocks
 pub mod Halts
 pub mod Pictures
+pub mod Shown
 pub mod Tables

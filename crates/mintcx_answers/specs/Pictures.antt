@@ -1,7 +1,7 @@
 -- Pictures as SVG, of the bytes of their files.
-use Rattle.std.specs.Prelude.{◌≡◌, ◌⊎◌, ℕ, ℤ, List}
+use Rattle.std.specs.Prelude.{◌≡◌, ◌⊎◌, ℕ, ℤ, List, Option}
 use Rattle.mintc_text.specs.declared.limits.Most.{Most}
-use Rattle.mintc_timing.specs.Design.{Timing, phase_count}
+use Rattle.mintc_timing.specs.Design.{Design, Timing, phase_count}
 use Rattle.mintc_timing.specs.Departures.{AreEarly, AreExact, AreLate}
 use Rattle.mintc_timing.specs.declared.clocking.Schedule.{Schedule}
 use Rattle.mintc_certificate.specs.CertificateText.{IsCertificateText}
@@ -14,7 +14,7 @@ use Rattle.mintc_slack.specs.Answers.{IsSlackAnswer}
 use Rattle.mintc_slack.specs.declared.finding.Slacks.{Slacks}
 use Rattle.mintc_slack.specs.declared.finding.Slacks.TheVariants as slacks
 use Rattle.mintc_command_answers.specs.Jobs.{IsOptimum, IsScheduleOf}
-use Rattle.mintc_command_answers.specs.Sources.{AreShort, Gives, own_file}
+use Rattle.mintc_command_answers.specs.Sources.{AreShort, own_file}
 use Rattle.mintc_command_answers.specs.declared.command.Command.{Command}
 use Rattle.mintc_command_answers.specs.declared.command.Command.TheVariants.{OfDesign}
 use Rattle.mintc_command_answers.specs.declared.command.Job.{Job}
@@ -29,6 +29,7 @@ use Rattle.mintcx_draw.specs.Drawings.{IsDrawnOf}
 use Rattle.mintcx_fares.specs.Drawings.{IsFaresDrawn}
 use Rattle.mintcx_histogram.specs.Pictures.{IsSlackDrawn}
 use Rattle.mintcx_answers.specs.Answers.{IsToldVerdict}
+use Rattle.mintcx_answers.specs.Shown.{IsSystemFor}
 use Rattle.mintcx_answers.specs.declared.pictures.Motif.{Motif}
 use Rattle.mintcx_answers.specs.declared.pictures.Motif.TheVariants as motif
 use Rattle.mintcx_answers.specs.declared.pictures.Pictured.{Pictured}
@@ -100,12 +101,12 @@ IsOfMotif most motif.Schedule design t file view told = (s : Schedule)
     × IsScheduleOf file (phase_count t.flat) s × IsScheduleShown t s told
 IsOfMotif most motif.Slacks design t file view told = IsSlackShown t view told
 
--- The picture of a motif, of files of which none is too long.
-abbrev pub IsOfFiles : Most → Motif → Source → List ℕ → View → List (List ℕ) → Pictured → Type 0
-IsOfFiles most shows from design view files told = (t : Timing) × Gives most from files t
+-- The picture of a motif, of files of which none is too long, and of the design at hand where there is one.
+abbrev pub IsOfFiles : Most → Option Design → Motif → Source → List ℕ → View → List (List ℕ) → Pictured → Type 0
+IsOfFiles most shown shows from design view files told = (t : Timing) × IsSystemFor most shown from files t
     × IsOfMotif most shows design t (own_file from files) view told
 
--- A picture as SVG, on the bytes of its files, of which none is refused.
-abbrev pub HasPicture : Most → Motif → Source → List ℕ → View → List (List ℕ) → Pictured → Type 0
-HasPicture most shows from design view files told =
-    AreShort most files × IsOfFiles most shows from design view files told
+-- A picture as SVG, on the bytes of its files, of which none is refused, and of the design at hand where there is one.
+abbrev pub HasPicture : Most → Option Design → Motif → Source → List ℕ → View → List (List ℕ) → Pictured → Type 0
+HasPicture most shown shows from design view files told =
+    AreShort most files × IsOfFiles most shown shows from design view files told

@@ -1,19 +1,23 @@
 //! The answer to a command in a text for people, from the bytes of its files.
-ghost use Rattle.std.specs.Prelude.{◌≡◌, length, IfOk, IfErr};
+ghost use Rattle.std.specs.Prelude.{◌≡◌, length, IfOk, IfErr, IfSome};
 ghost use Rattle.mintc_text.specs.Stops.{StopsAt};
-ghost use Rattle.mintc_command_answers.specs.Answers.{IsFirstRefusal, IsJobRefusal, IsOfCommand};
+ghost use Rattle.mintc_timing.specs.Limits.{IsWithinLimits};
+ghost use Rattle.mintc_command_answers.specs.Answers.{IsOfCommand};
 ghost use Rattle.mintc_command_answers.specs.Commands.{IsNumberInRange, roles_of};
 ghost use Rattle.mintc_command_answers.specs.Corners.{IsFirstRefused, corners_of};
 ghost use Rattle.mintc_command_answers.specs.Sources.{AreShort};
 ghost use Rattle.mintcx_answers.specs.Halts.{HaltsAt};
 ghost use Rattle.mintcx_answers.specs.Answers.{AreNamed, HasAnswer, IsContentAnswer, IsOnFiles};
+ghost use Rattle.mintcx_answers.specs.Shown.{IsFirstRefusalFor, IsJobRefusalFor};
 
 use crate::corners::corners_answer;
 use crate::halts::Halt;
 use crate::jobs::{Work, job_text};
 use crate::reports::netlist_for;
-use mintc_command_answers::{Answer, Command, Source, own_file, system_of, too_long};
+use crate::shown::system_for;
+use mintc_command_answers::{Answer, Command, own_file, too_long};
 use mintc_text::{Bytes, Limits, Name, Stop};
+use mintc_timing::Flat;
 use mintcx_frame::View;
 use mintcx_translation::Aspect;
 use std::alloc::Global;
@@ -27,35 +31,38 @@ pub struct Question<'a> {
     pub beside: &'a [Name],
 }
 
-/// The answer to a job on the texts of a design and of the file beside them, none of them too long, or their first
-/// refusal.
+/// The answer to a job on the design at hand, or on the texts of one, and on the file beside them, none of them too
+/// long, or their first refusal.
 fn design_text(
     alloc: Global,
     limits: &Limits,
     work: &Work<'_, '_>,
-    source: Source,
+    shown: Option<Flat>,
     view: &View,
     texts: &mut [Bytes],
 ) -> Result<Answer, Stop>
-    requires count { length texts.old ≡ length (roles_of (Command.OfDesign work.now.job source)) }
+    requires count { length texts.old ≡ length (roles_of (Command.OfDesign work.now.job work.now.source)) }
     requires short { AreShort limits.now texts.old }
+    requires within { IfSome shown (IsWithinLimits limits.now) }
     ensures value { IfOk result
-        (λ answer. IsContentAnswer limits.now (Command.OfDesign work.now.job source) work.now.aspect
+        (λ answer. IsContentAnswer limits.now shown (Command.OfDesign work.now.job work.now.source) work.now.aspect
         work.now.beside.now texts.old view.now answer.status answer.text) }
-    ensures stop { IfErr result (StopsAt (IsJobRefusal limits.now work.now.job source texts.old)) }
+    ensures stop { IfErr result
+        (StopsAt (IsJobRefusalFor limits.now shown work.now.job work.now.source texts.old)) }
 {
-    let system = system_of(alloc, limits, source, texts)?;
-    let file = own_file(limits, source, texts);
+    let system = system_for(alloc, limits, work.source, shown, texts)?;
+    let file = own_file(limits, work.source, texts);
     job_text(alloc, limits, work, &system, file, view)
 }
 
 /// The answer to a question in a text for people, of the first bytes of the files of its command, shown in this view,
-/// or their first refusal, which is mintc's, and of a corner that of its own files. The memory of the files is given
-/// back once their design is read.
+/// or their first refusal, which is mintc's, and of a corner that of its own files. Where a design is at hand, a
+/// command of one design is answered of it. The memory of files is given back once their design is read.
 pub fn answer_text(
     alloc: Global,
     limits: &Limits,
     question: &Question<'_>,
+    shown: Option<Flat>,
     view: &View,
     files: &mut [Bytes],
 ) -> Result<Answer, Halt>
@@ -63,11 +70,12 @@ pub fn answer_text(
     requires in_range { IsNumberInRange question.now.command }
     requires on_files { IsOnFiles question.now.command }
     requires names { AreNamed question.now.command question.now.beside.now }
+    requires within { IfSome shown (IsWithinLimits limits.now) }
     ensures value { IfOk result
-        (λ answer. HasAnswer limits.now question.now.command question.now.aspect question.now.beside.now files.old
-        view.now answer.status answer.text) }
+        (λ answer. HasAnswer limits.now shown question.now.command question.now.aspect question.now.beside.now
+        files.old view.now answer.status answer.text) }
     ensures of_command { IfOk result (λ answer. IsOfCommand answer.status) }
-    ensures stop { IfErr result (HaltsAt (IsFirstRefusal limits.now question.now.command files.old)
+    ensures stop { IfErr result (HaltsAt (IsFirstRefusalFor limits.now shown question.now.command files.old)
         (IsFirstRefused limits.now (corners_of files.old) 1)) }
 {
     if let Some(refusal) = too_long(limits, question.command.roles(), files) {
@@ -79,11 +87,12 @@ pub fn answer_text(
             let netlist = read.as_ref();
             let work = Work {
                 job,
+                source,
                 aspect: question.aspect,
                 beside: question.beside,
                 netlist,
             };
-            Ok(design_text(alloc, limits, &work, source, view, files)?)
+            Ok(design_text(alloc, limits, &work, shown, view, files)?)
         }
         Command::Corners { count } => corners_answer(alloc, limits, question, count, view, files),
         Command::Sample { .. } => unreachable!(),

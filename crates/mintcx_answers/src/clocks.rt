@@ -2,34 +2,32 @@
 ghost use Rattle.std.specs.Prelude.{◌≡◌, ◌≤◌, None, true, false, length, IfErr, IfOk, IfSome, MatchOption};
 ghost use Rattle.mintc_text.specs.Stops.{StopsAt};
 ghost use Rattle.mintc_timing.specs.Design.{phase_count};
-ghost use Rattle.mintc_timing.specs.Limits.{IsInRange};
+ghost use Rattle.mintc_timing.specs.Limits.{IsInRange, IsWithinLimits};
 ghost use Rattle.mintc_certificate.specs.Ranges.{IsCertificateInRange};
 ghost use Rattle.mintc_checker.specs.Verdicts.{IsVerdict};
 ghost use Rattle.mintc_clock.specs.Laws.{KeepsLimits};
-ghost use Rattle.mintc_command_answers.specs.Answers.{IsFirstRefusal, IsJobRefusal};
 ghost use Rattle.mintc_command_answers.specs.Commands.{roles_of, source_roles};
 ghost use Rattle.mintc_command_answers.specs.Jobs.{IsFileRefused};
 ghost use Rattle.mintc_command_answers.specs.Sources.{AreShort};
 ghost use Rattle.mintcx_answers.specs.Answers.{IsToldVerdict};
 ghost use Rattle.mintcx_answers.specs.Clocks.{AreHolds, HasClocks, IsBeyond, IsChosen, IsClockIn, IsDenied};
 ghost use Rattle.mintcx_answers.specs.Clocks.{IsOfCertificate, IsOfFiles, IsOfLeast, IsOfSchedule, IsOfText};
-ghost use Rattle.mintcx_answers.specs.Clocks.{IsRaised, IsRoundedUp, IsSaid, command_of, is_hold, job_of};
-ghost use Rattle.mintcx_answers.specs.Clocks.{AreBeside, HasClocksBeside, IsClockBeside, IsReadBeside, of_phases};
+ghost use Rattle.mintcx_answers.specs.Clocks.{IsRaised, IsRoundedUp, IsSaid, command_of, is_hold, job_of, of_phases};
+ghost use Rattle.mintcx_answers.specs.Shown.{IsFirstRefusalFor, IsJobRefusalFor};
 
 use crate::jobs::{cycle_of, failed};
+use crate::shown::system_for;
 use crate::verdicts::{Judged, told_verdict};
 use mintc_certificate::{Certificate, read};
 use mintc_checker::{Verdict, examine};
 use mintc_clock::{
     Clock, clocks_are_determined, clocks_are_not_refused, clocks_keep_limits, read_clock,
 };
-use mintc_command_answers::{
-    Command, Job, Source, own_file, room_for, schedule_of, system_of, too_long,
-};
+use mintc_command_answers::{Command, Job, Source, own_file, room_for, schedule_of, too_long};
 use mintc_departure::violations;
 use mintc_text::limits::MOST_BYTES;
 use mintc_text::{Bytes, Limits, OutOfMemory, Stop};
-use mintc_timing::{Broken, Schedule, System, Violation};
+use mintc_timing::{Broken, Flat, Schedule, System, Violation};
 use mintcx_cycles::{AtCycle, at_cycle_uncounted};
 use mintcx_frame::View;
 use mintcx_sdc::{Obstacle, Titles, clock_by_names, obstacle_of, sdc_text};
@@ -300,45 +298,64 @@ fn clock_of(alloc: Global, system: &System, read: Option<Clock>) -> Result<Clock
     }
 }
 
-/// The command that reads a design and the text beside it.
-fn command_on(stated: Stated, source: Source) -> Command
-    ensures { result ≡ command_of stated source }
+/// A clock, where it has so many phases.
+fn of_phases(count: u32, read: Option<Clock>) -> Option<Clock>
+    ensures { result ≡ of_phases count read }
 {
-    let job = match stated {
-        Stated::Schedule => Job::Check,
-        Stated::Certificate => Job::Verify,
-    };
-    Command::OfDesign { job, source }
+    match read {
+        Some(clock) if clock.phases.items().len() == count as usize => Some(clock),
+        _ => None,
+    }
 }
 
-/// The command that reads the design of a statement, and the text beside it.
+/// The clock that was read, where it has as many phases as a design, or that of the names of the design's phases.
+fn fitting_clock(alloc: Global, system: &System, read: Option<Clock>) -> Result<Clock, OutOfMemory>
+    ensures value { IfOk result (IsChosen system.now (of_phases (phase_count system.now.flat) read)) }
+    ensures limits { IfOk result
+        (λ clock. of_phases (phase_count system.now.flat) read ≡ None → KeepsLimits clock) }
+{
+    let fitting = of_phases(system.flat().phase_count(), read);
+    clock_of(alloc, system, fitting)
+}
+
+/// The command that reads a design and the text beside it.
 fn command_of(asked: &Statement<'_>) -> Command
     ensures { result ≡ command_of asked.now.stated asked.now.source }
 {
-    command_on(asked.stated, asked.source)
+    let job = match asked.stated {
+        Stated::Schedule => Job::Check,
+        Stated::Certificate => Job::Verify,
+    };
+    Command::OfDesign {
+        job,
+        source: asked.source,
+    }
 }
 
-/// The clocks of the schedule of a text beside a design's, none of them too long, or their first refusal.
+/// The clocks of the schedule of a text beside the design at hand, or beside that of texts, none of them too long, or
+/// their first refusal.
 fn design_clocks(
     alloc: Global,
     limits: &Limits,
     asked: &Statement<'_>,
+    shown: Option<Flat>,
     read: Option<Clock>,
     texts: &mut [Bytes],
 ) -> Result<Clocks, Stop>
     requires all { length (source_roles asked.now.source) ≤ length texts.old }
     requires short { AreShort limits.now texts.old }
+    requires within { IfSome shown (IsWithinLimits limits.now) }
     requires read { IsClockIn asked.now.source texts.old read }
-    ensures value { IfOk result (IsOfFiles limits.now asked.now.stated asked.now.source asked.now.titles.now
+    ensures value { IfOk result (IsOfFiles limits.now shown asked.now.stated asked.now.source asked.now.titles.now
         asked.now.view.now texts.old) }
     ensures stop { IfErr result
-        (StopsAt (IsJobRefusal limits.now (job_of asked.now.stated) asked.now.source texts.old)) }
+        (StopsAt (IsJobRefusalFor limits.now shown (job_of asked.now.stated) asked.now.source texts.old)) }
 {
     clocks_keep_limits();
     clocks_are_determined();
     clocks_are_not_refused();
-    let system = system_of(alloc, limits, asked.source, texts)?;
-    let clock = clock_of(alloc, &system, read)?;
+    let system = system_for(alloc, limits, asked.source, shown, texts)?;
+    let clock = fitting_clock(alloc, &system, read)?;
     let clocked = Clocked {
         system: &system,
         clock: &clock,
@@ -350,108 +367,26 @@ fn design_clocks(
 }
 
 /// The clocks of a schedule as SDC, of the first bytes of its files, or their first refusal, which is that of mintc's
-/// command for it. The memory of the files is given back once their design is read.
+/// command for it. Where a design is at hand, they are clocks of that. The memory of files is given back once their
+/// design is read.
 pub fn clocks_text(
     alloc: Global,
     limits: &Limits,
     asked: &Statement<'_>,
+    shown: Option<Flat>,
     files: &mut [Bytes],
 ) -> Result<Clocks, Stop>
     requires count { length files.old ≡ length (roles_of (command_of asked.now.stated asked.now.source)) }
-    ensures value { IfOk result (HasClocks limits.now asked.now.stated asked.now.source asked.now.titles.now
+    requires within { IfSome shown (IsWithinLimits limits.now) }
+    ensures value { IfOk result (HasClocks limits.now shown asked.now.stated asked.now.source asked.now.titles.now
         asked.now.view.now files.old) }
-    ensures stop { IfErr result (StopsAt (IsFirstRefusal limits.now (command_of asked.now.stated asked.now.source) files.old)) }
+    ensures stop { IfErr result
+        (StopsAt (IsFirstRefusalFor limits.now shown (command_of asked.now.stated asked.now.source) files.old)) }
 {
     let command = command_of(asked);
     if let Some(refusal) = too_long(limits, command.roles(), files) {
         return Err(Stop::Refused(refusal));
     }
     let read = clock_in(alloc, limits, asked.source, files)?;
-    design_clocks(alloc, limits, asked, read, files)
-}
-
-/// The clock of a description, where it can be read.
-fn read_beside(alloc: Global, text: &[u8]) -> Result<Option<Clock>, OutOfMemory>
-    ensures { IfOk result (IsReadBeside text.now) }
-{
-    if text.len() > MOST_BYTES {
-        return Ok(None);
-    }
-    match read_clock(alloc, text) {
-        Ok(clock) => Ok(Some(clock)),
-        Err(Stop::Refused(_)) => Ok(None),
-        Err(Stop::OutOfMemory) => Err(OutOfMemory),
-    }
-}
-
-/// A clock, where it has so many phases.
-fn of_phases(count: u32, read: Option<Clock>) -> Option<Clock>
-    ensures { result ≡ of_phases count read }
-{
-    match read {
-        Some(clock) if clock.phases.items().len() == count as usize => Some(clock),
-        _ => None,
-    }
-}
-
-/// The clock of a description beside a table, or that of the table, by the names of its phases.
-#[tactic(auto, using(crate::proofs::ClockLaws::beside_fits))]
-fn clock_beside(alloc: Global, system: &System, text: &[u8]) -> Result<Clock, OutOfMemory>
-    ensures value { IfOk result (IsClockBeside text.now system.now) }
-    ensures limits { IfOk result KeepsLimits }
-    ensures alike { IfOk result (λ clock. length clock.phases ≡ phase_count system.now.flat) }
-{
-    clocks_keep_limits();
-    let read = read_beside(alloc, text)?;
-    let fitting = of_phases(system.flat().phase_count(), read);
-    clock_of(alloc, system, fitting)
-}
-
-/// The clocks of the schedule of a text behind a table, none of them too long, with the clock description beside it; or
-/// their first refusal.
-fn table_clocks(
-    alloc: Global,
-    limits: &Limits,
-    asked: &Statement<'_>,
-    clock: &[u8],
-    texts: &mut [Bytes],
-) -> Result<Clocks, Stop>
-    requires all { length (source_roles Source.Table) ≤ length texts.old }
-    requires short { AreShort limits.now texts.old }
-    ensures value { IfOk result (AreBeside limits.now asked.now.stated clock.now asked.now.titles.now
-        asked.now.view.now texts.old) }
-    ensures stop { IfErr result
-        (StopsAt (IsJobRefusal limits.now (job_of asked.now.stated) Source.Table texts.old)) }
-{
-    let system = system_of(alloc, limits, Source::Table, texts)?;
-    let clock = clock_beside(alloc, &system, clock)?;
-    let clocked = Clocked {
-        system: &system,
-        clock: &clock,
-        titles: asked.titles,
-        view: asked.view,
-    };
-    let file = own_file(limits, Source::Table, texts);
-    text_clocks(alloc, limits, asked.stated, &clocked, file)
-}
-
-/// The clocks of a schedule as SDC, of a table and of the file behind it, with the clock description of the files that
-/// the table is made of; or their first refusal, which is that of mintc's command for a table.
-pub fn clocks_text_beside(
-    alloc: Global,
-    limits: &Limits,
-    asked: &Statement<'_>,
-    clock: &[u8],
-    files: &mut [Bytes],
-) -> Result<Clocks, Stop>
-    requires count { length files.old ≡ length (roles_of (command_of asked.now.stated Source.Table)) }
-    ensures value { IfOk result (HasClocksBeside limits.now asked.now.stated clock.now asked.now.titles.now
-        asked.now.view.now files.old) }
-    ensures stop { IfErr result (StopsAt (IsFirstRefusal limits.now (command_of asked.now.stated Source.Table) files.old)) }
-{
-    let command = command_on(asked.stated, Source::Table);
-    if let Some(refusal) = too_long(limits, command.roles(), files) {
-        return Err(Stop::Refused(refusal));
-    }
-    table_clocks(alloc, limits, asked, clock, files)
+    design_clocks(alloc, limits, asked, shown, read, files)
 }

@@ -1,5 +1,5 @@
 //! The optimum of several corners.
-ghost use Rattle.std.specs.Prelude.{◌≡◌, ◌≤◌, length, IfErr, IfOk};
+ghost use Rattle.std.specs.Prelude.{◌≡◌, ◌≤◌, None, length, IfErr, IfOk};
 ghost use Rattle.std.specs.List.{AllZip};
 ghost use Rattle.mintc_text.specs.declared.limits.TheConstants.{MOST_ELEMENTS};
 ghost use Rattle.mintc_corners.specs.CornerOptimum.{IsOptimumOf};
@@ -128,8 +128,8 @@ pub(crate) fn corners_answer(
     requires names { length question.now.beside.now ≡ count }
     requires short { AreShort limits.now texts.now }
     ensures value { IfOk result
-        (λ answer. IsContentAnswer limits.now (Command.Corners count) question.now.aspect question.now.beside.now
-        texts.now view.now answer.status answer.text) }
+        (λ answer. IsContentAnswer limits.now None (Command.Corners count) question.now.aspect
+        question.now.beside.now texts.now view.now answer.status answer.text) }
     ensures stop { IfErr result (HaltsAt (IsFirstRefusal limits.now (Command.Corners count) texts.now)
         (IsFirstRefused limits.now (corners_of texts.now) 1)) }
 {

@@ -23,7 +23,7 @@ use crate::schedules::timed_answer;
 use crate::verdicts::verify_answer;
 use mintc_certificate::Certificate;
 use mintc_command_answers::{
-    Answer, Job, Status, optimum, room_for, safe_from, schedule_of, slacks_from,
+    Answer, Job, Source, Status, optimum, room_for, safe_from, schedule_of, slacks_from,
 };
 use mintc_constraints::Room;
 use mintc_departure::{Settling, early, late, violations};
@@ -46,11 +46,12 @@ use std::alloc::Global;
 use std::marker::Brand;
 use std::sync::ledger::Blank;
 
-/// What is asked of a design, and what of it is told; what is beside its files as they are called, and the netlist that
-/// names the cells of a report's gates.
+/// What is asked of the design of a source, and what of it is told; what is beside its files as they are called, and the
+/// netlist that names the cells of a report's gates.
 #[derive(Clone, Copy)]
 pub(crate) struct Work<'a, 'b> {
     pub(crate) job: Job,
+    pub(crate) source: Source,
     pub(crate) aspect: Aspect,
     pub(crate) beside: &'a [Name],
     pub(crate) netlist: Option<&'b Netlist>,

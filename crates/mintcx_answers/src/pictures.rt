@@ -1,14 +1,13 @@
 //! Pictures, as SVG.
-ghost use Rattle.std.specs.Prelude.{◌≡◌, ◌≤◌, ◌+◌, ◌*◌, ℕ, List, length, IfErr, IfOk};
+ghost use Rattle.std.specs.Prelude.{◌≡◌, ◌≤◌, ◌+◌, ◌*◌, ℕ, List, length, IfErr, IfOk, IfSome};
 ghost use Rattle.mintc_text.specs.Stops.{StopsAt};
 ghost use Rattle.mintc_text.specs.declared.limits.TheConstants.{MOST_SLACK};
 ghost use Rattle.mintc_timing.specs.Design.{element_count, phase_count};
-ghost use Rattle.mintc_timing.specs.Limits.{IsInRange};
+ghost use Rattle.mintc_timing.specs.Limits.{IsInRange, IsWithinLimits};
 ghost use Rattle.mintc_certificate.specs.Ranges.{IsCertificateInRange};
 ghost use Rattle.mintc_certificate.specs.Valid.{IsValid};
 ghost use Rattle.mintc_checker.specs.Verdicts.{IsVerdict};
 ghost use Rattle.mintc_slack.specs.Answers.{AreOfPairs};
-ghost use Rattle.mintc_command_answers.specs.Answers.{IsFirstRefusal, IsJobRefusal};
 ghost use Rattle.mintc_command_answers.specs.Commands.{roles_of};
 ghost use Rattle.mintc_command_answers.specs.Jobs.{IsFileRefused};
 ghost use Rattle.mintc_command_answers.specs.Sources.{AreShort};
@@ -21,20 +20,21 @@ ghost use Rattle.mintcx_answers.specs.Answers.{IsToldVerdict, name_beside};
 ghost use Rattle.mintcx_answers.specs.Pictures.{HasPicture, IsCertificateShown, IsDenied, IsOfFiles, IsOfMotif};
 ghost use Rattle.mintcx_answers.specs.Pictures.{IsOptimumShown, IsScheduleShown, IsShowing, IsSlackShown};
 ghost use Rattle.mintcx_answers.specs.Pictures.{command_of, job_of};
+ghost use Rattle.mintcx_answers.specs.Shown.{IsFirstRefusalFor, IsJobRefusalFor};
 
+use crate::shown::system_for;
 use crate::verdicts::{Judged as Examination, name_beside, told_verdict};
 use mintc_certificate::{Certificate, read};
 use mintc_checker::{Verdict, examine};
 use mintc_command_answers::{
-    Command, Job, Source, optimum, own_file, room_for, schedule_of, slacks_from, system_of,
-    too_long,
+    Command, Job, Source, optimum, own_file, room_for, schedule_of, slacks_from, too_long,
 };
 use mintc_constraints::Room;
 use mintc_departure::{Settling, early, late, violations};
 use mintc_slack::Slacks;
 use mintc_text::limits::MOST_BYTES;
 use mintc_text::{Bytes, Kind, Limits, Name, OutOfMemory, Refusal, Stop};
-use mintc_timing::{Schedule, System};
+use mintc_timing::{Flat, Schedule, System};
 use mintcx_draw::draw;
 use mintcx_fares::fares_picture;
 use mintcx_frame::View;
@@ -373,44 +373,49 @@ fn command_of(sketch: &Sketch<'_>) -> Command
     }
 }
 
-/// A picture of a design and of the text beside it, none of them too long, or their first refusal.
+/// A picture of the design at hand, or of that of texts, and of the text beside it, none of them too long, or their
+/// first refusal.
 fn design_shown(
     alloc: Global,
     limits: &Limits,
     sketch: &Sketch<'_>,
+    shown: Option<Flat>,
     view: &View,
     texts: &mut [Bytes],
 ) -> Result<Pictured, Stop>
     requires count { length texts.old ≡ length (roles_of (command_of sketch.now.motif sketch.now.source)) }
     requires short { AreShort limits.now texts.old }
-    ensures value { IfOk result (IsOfFiles limits.now sketch.now.motif sketch.now.source
+    requires within { IfSome shown (IsWithinLimits limits.now) }
+    ensures value { IfOk result (IsOfFiles limits.now shown sketch.now.motif sketch.now.source
         (name_beside sketch.now.beside.now) view.now texts.old) }
     ensures stop { IfErr result
-        (StopsAt (IsJobRefusal limits.now (job_of sketch.now.motif) sketch.now.source texts.old)) }
+        (StopsAt (IsJobRefusalFor limits.now shown (job_of sketch.now.motif) sketch.now.source texts.old)) }
 {
-    let system = system_of(alloc, limits, sketch.source, texts)?;
+    let system = system_for(alloc, limits, sketch.source, shown, texts)?;
     let file = own_file(limits, sketch.source, texts);
     motif_shown(alloc, limits, sketch, &system, file, view)
 }
 
 /// A picture as SVG, of the first bytes of its files, or their first refusal, which is that of mintc's command for it.
-/// The memory of the files is given back once their design is read.
+/// Where a design is at hand, it is one of that. The memory of files is given back once their design is read.
 pub fn picture_for(
     alloc: Global,
     limits: &Limits,
     sketch: &Sketch<'_>,
+    shown: Option<Flat>,
     view: &View,
     files: &mut [Bytes],
 ) -> Result<Pictured, Stop>
     requires count { length files.old ≡ length (roles_of (command_of sketch.now.motif sketch.now.source)) }
-    ensures value { IfOk result (HasPicture limits.now sketch.now.motif sketch.now.source
+    requires within { IfSome shown (IsWithinLimits limits.now) }
+    ensures value { IfOk result (HasPicture limits.now shown sketch.now.motif sketch.now.source
         (name_beside sketch.now.beside.now) view.now files.old) }
     ensures stop { IfErr result
-        (StopsAt (IsFirstRefusal limits.now (command_of sketch.now.motif sketch.now.source) files.old)) }
+        (StopsAt (IsFirstRefusalFor limits.now shown (command_of sketch.now.motif sketch.now.source) files.old)) }
 {
     let command = command_of(sketch);
     if let Some(refusal) = too_long(limits, command.roles(), files) {
         return Err(Stop::Refused(refusal));
     }
-    design_shown(alloc, limits, sketch, view, files)
+    design_shown(alloc, limits, sketch, shown, view, files)
 }

@@ -1,4 +1,4 @@
--- The table of the design with edges apart that four texts have, or why they have none.
+-- The design with edges apart that four texts have, or why they have none; and its table.
 use Rattle.std.specs.Prelude.{ℕ, Bool, true, false, List}
 use Rattle.mintc_text.specs.declared.limits.Most.{Most}
 use Rattle.mintc_timing.specs.Design.{Design}
@@ -38,8 +38,3 @@ IsHaltApart most false gates texts why = IsFilesHalt most texts why
 abbrev pub IsToldApart : Design → Apart → Type 0
 IsToldApart d (Said text) = IsTableOf d text
 IsToldApart d (Unsaid obstacle) = IsObstacle d obstacle
-
--- what is told of the design with edges apart of the first four texts
-abbrev pub HasTableApart : Most → Bool → List (List ℕ) → List (List ℕ) → Apart → Type 0
-HasTableApart most is_library gates texts told = (design : Design) × IsDesignApart most is_library gates texts design
-    × IsToldApart design told

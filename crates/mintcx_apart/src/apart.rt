@@ -1,7 +1,8 @@
-//! The table of a design with edges apart.
+//! The design with edges apart, and its table.
 ghost use Rattle.std.specs.Prelude.{◌≡◌, ◌≤◌, length, IfErr, IfOk};
+ghost use Rattle.mintc_timing.specs.Limits.{IsWithinLimits};
 ghost use Rattle.mintc_command_answers.specs.Sources.{AreShort};
-ghost use Rattle.mintcx_apart.specs.Apart.{HasTableApart, IsDesignApart, IsHaltApart, IsToldApart};
+ghost use Rattle.mintcx_apart.specs.Apart.{IsDesignApart, IsHaltApart, IsToldApart};
 
 use mintc_text::{Bytes, Limits, Name, OutOfMemory};
 use mintc_timing::Flat;
@@ -18,9 +19,10 @@ pub enum Apart {
     Unsaid(Obstacle),
 }
 
-/// The design with edges apart of the first four texts, of which the third is a library with gates of these names for
-/// the clock, or a description of cells; or why they have none.
-fn design_apart(
+/// The design with edges apart of the first four texts: a netlist, delays, a library with gates of these names for the
+/// clock or else a description of cells, and a clock. Or why there is none: their first refusal, or the first gate that
+/// isn't fit.
+pub fn design_apart(
     alloc: Global,
     limits: &Limits,
     is_library: bool,
@@ -30,6 +32,7 @@ fn design_apart(
     requires four { 4 ≤ length texts.now }
     requires short { AreShort limits.now texts.now }
     ensures value { IfOk result (IsDesignApart limits.now is_library gates.now texts.now) }
+    ensures within { IfOk result (IsWithinLimits limits.now) }
     ensures halt { IfErr result (IsHaltApart limits.now is_library gates.now texts.now) }
 {
     let _most = limits.most();
@@ -44,31 +47,12 @@ fn design_apart(
     }
 }
 
-/// What is told of a design: its table, or what of it no table can say.
-fn told_apart(alloc: Global, flat: &Flat) -> Result<Apart, OutOfMemory>
-    ensures { IfOk result (IsToldApart flat.now) }
+/// What is told of a design, whose memory is given back: its table, or what of it no table can say.
+pub fn table_apart(alloc: Global, flat: Flat) -> Result<Apart, OutOfMemory>
+    ensures { IfOk result (IsToldApart flat) }
 {
-    match obstacle_of(flat) {
+    match obstacle_of(&flat) {
         Some(obstacle) => Ok(Apart::Unsaid(obstacle)),
-        None => Ok(Apart::Said(table_text(alloc, flat)?)),
+        None => Ok(Apart::Said(table_text(alloc, &flat)?)),
     }
-}
-
-/// The table of the design with edges apart of the first four texts: a netlist, delays, a library with gates of these
-/// names for the clock or else a description of cells, and a clock. Or why there is none: their first refusal, or the
-/// first gate that isn't fit.
-pub fn table_apart(
-    alloc: Global,
-    limits: &Limits,
-    is_library: bool,
-    gates: &[Name],
-    texts: &[Bytes],
-) -> Result<Apart, Halt>
-    requires four { 4 ≤ length texts.now }
-    requires short { AreShort limits.now texts.now }
-    ensures value { IfOk result (HasTableApart limits.now is_library gates.now texts.now) }
-    ensures halt { IfErr result (IsHaltApart limits.now is_library gates.now texts.now) }
-{
-    let flat = design_apart(alloc, limits, is_library, gates, texts)?;
-    Ok(told_apart(alloc, &flat)?)
 }

@@ -78,7 +78,7 @@ count_colour count = if count == 0 then Soft else Ink
 abbrev pub count_form : Bar → List ℕ → Form
 count_form bar count =
     words_form (at (208 + bar_width bar.fullest bar.count) (top_of bar.number + 17)) count 12
-        (count_colour bar.count) Start
+    (count_colour bar.count) Start
 
 -- a bar with its ground, its name and the number of its pairs
 abbrev pub bar_forms : Unit → Bar → List Form

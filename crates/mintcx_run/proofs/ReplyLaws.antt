@@ -8,7 +8,7 @@ use Rattle.mintc_command.specs.Answers.{AreFronts, MakesAtMost}
 use Rattle.mintc_command.proofs.SharedCalls.{MakesAtMost-none, MakesAtMost-sum}
 use Rattle.mintc_text.specs.declared.refusals.Refusal.{Refusal}
 use Rattle.mintc_text.specs.declared.refusals.Refusal.TheVariants as refusal
-use Rattle.mintc_command_answers.specs.declared.status.Status.TheVariants.{Usage}
+use Rattle.mintc_command_answers.specs.declared.status.Status.TheVariants.{Found, Usage}
 use Rattle.mintcx_requests.specs.Requests.{Text, request_of}
 use Rattle.mintcx_requests.specs.declared.given.Given.{Given}
 use Rattle.mintcx_requests.specs.declared.requests.Request.{Request}
@@ -16,18 +16,19 @@ use Rattle.mintcx_requests.specs.declared.requests.Request.TheVariants as reques
 use Rattle.mintcx_project.specs.declared.project.Settings.{Settings}
 use Rattle.mintcx_explanations.specs.Explanations.{IsOfNumber, IsRefusalNumber, IsWarningPage, Names, NamesNoWarning}
 use Rattle.mintc_text.specs.Limits.{large}
+use Rattle.mintc_timing.specs.Design.{Design}
 use Rattle.mintc_command_answers.specs.Corners.{IsFirstRefused, corners_of}
 use Rattle.mintcx_run.specs.declared.answers.Told.{Told}
-use Rattle.mintcx_run.specs.declared.orders.Made.{Made}
 use Rattle.mintcx_run.specs.declared.orders.Order.{Order}
 use Rattle.mintcx_run.specs.declared.reply.Reply.{Reply}
 use Rattle.mintcx_clock_cells.specs.declared.unfit.Unfit.{Unfit}
 use Rattle.mintcx_run.specs.Libraries.{AreGiven, IsUndescribed}
-use Rattle.mintcx_apart.specs.declared.apart.Apart.{Apart}
+use Rattle.mintcx_apart.specs.Apart.{IsToldApart}
 use Rattle.mintcx_apart.specs.declared.apart.Apart.TheVariants as apart
 use Rattle.mintcx_edges.specs.declared.halt.Halt.{Halt}
-use Rattle.mintcx_run.specs.Apart.{IsMade, IsMadeOf, IsUnmade, in_place, of_table}
-use Rattle.mintcx_run.specs.Replies.{AreUnread, IsAnswered, IsApartReply, IsCallReply, IsCornerReply, IsDesignReply, IsEarlyReply, IsExplanationReply, IsGiven, IsGivenReply, IsHaltReply, IsMadeReply, IsMessage, IsOrderOf, IsOrdered, IsOtherReply, IsOutOfMemory, IsPageOf, IsPageOfRefusal, IsPlaced, IsRefusalReply, IsRefused, IsReply, IsSettings, IsTakenReply, IsTextsReply, IsUnfitReply, IsUnread, IsWordsReply, NamesNoRefusal, NamesNone, read_as}
+use Rattle.mintcx_tables.specs.declared.obstacles.Obstacle.{Obstacle}
+use Rattle.mintcx_run.specs.Apart.{IsMade, IsUnmade, in_place, of_table}
+use Rattle.mintcx_run.specs.Replies.{AreUnread, IsAnswered, IsApartReply, IsCallReply, IsCornerReply, IsDesignReply, IsEarlyReply, IsExplanationReply, IsGiven, IsGivenReply, IsHaltReply, IsMadeReply, IsMessage, IsOrderOf, IsOrdered, IsOtherReply, IsOutOfMemory, IsOwnReply, IsPageOf, IsPageOfRefusal, IsPlaced, IsRefusalReply, IsRefused, IsReply, IsSettings, IsTableReply, IsTakenReply, IsTextsReply, IsUnfitReply, IsUnread, IsWordsReply, NamesNoRefusal, NamesNone, is_own, read_as}
 use Rattle.mintc_command_answers.specs.Sources.{file_at}
 use Rattle.mintcx_run.specs.Taken.{AreTaken, IsTaken, is_asked}
 use Rattle.mintcx_run.specs.Warned.{AreAllWarned, AreClampsTold}
@@ -67,33 +68,47 @@ pub unread_one : (names : List Text) (n : ℕ) (name : Text) (reply : Reply) →
 unread_one names n name reply below is h = inr (name, subst (λ (x : Text). Contains names x) (sym is) (Contains-get_or names n name below), h)
 
 -- the reply to an order of the texts that are given: its answer, or why there is none
-pub texts_told : (files : Option Files) (order : Order) (given : List Text) (warnings : Text) (told : Told) (reply : Reply) → IsAnswered order given told → IsPlaced order told reply → reply.warnings ≡ warnings →
-    IsOutOfMemory reply ⊎ IsTextsReply files order given warnings reply
-texts_told files order given warnings told reply h placed warned = inr (inl (told, h, placed, warned))
+pub texts_told : (files : Option Files) (shown : Option Design) (order : Order) (given : List Text) (warnings : Text) (told : Told) (reply : Reply) → IsAnswered shown order given told → IsPlaced order told reply → reply.warnings ≡ warnings →
+    IsOutOfMemory reply ⊎ IsTextsReply files shown order given warnings reply
+texts_told files shown order given warnings told reply h placed warned = inr (inl (told, h, placed, warned))
 
-pub texts_refused : (files : Option Files) (order : Order) (given : List Text) (warnings : Text) (refused : Refusal) (reply : Reply) → IsRefused order given refused → IsRefusalReply files order refused reply →
-    IsOutOfMemory reply ⊎ IsTextsReply files order given warnings reply
-texts_refused files order given warnings refused reply h said = inr (inr (inl (refused, h, said)))
+pub texts_refused : (files : Option Files) (shown : Option Design) (order : Order) (given : List Text) (warnings : Text) (refused : Refusal) (reply : Reply) → IsRefused shown order given refused → IsRefusalReply files order refused reply →
+    IsOutOfMemory reply ⊎ IsTextsReply files shown order given warnings reply
+texts_refused files shown order given warnings refused reply h said = inr (inr (inl (refused, h, said)))
 
-pub texts_refused_corner : (files : Option Files) (order : Order) (given : List Text) (warnings : Text) (corner : ℕ) (own : Refusal) (reply : Reply) → IsRefused order given (refusal.Corner corner) →
-    IsFirstRefused large (corners_of given) 1 corner own → IsCornerReply files order corner own reply → IsOutOfMemory reply ⊎ IsTextsReply files order given warnings reply
-texts_refused_corner files order given warnings corner own reply h first said = inr (inr (inr (corner, own, h, first, said)))
+pub texts_refused_corner : (files : Option Files) (shown : Option Design) (order : Order) (given : List Text) (warnings : Text) (corner : ℕ) (own : Refusal) (reply : Reply) → IsRefused shown order given (refusal.Corner corner) →
+    IsFirstRefused large (corners_of given) 1 corner own → IsCornerReply files order corner own reply → IsOutOfMemory reply ⊎ IsTextsReply files shown order given warnings reply
+texts_refused_corner files shown order given warnings corner own reply h first said = inr (inr (inr (corner, own, h, first, said)))
 
--- the reply where there is a design with edges apart: of its table, or that none can say it
-pub made_said : (files : Option Files) (order asked : Order) (made : Made) (table : Text) (taken texts : List Text) (warnings : Text) (reply : Reply) → IsMadeOf taken made → asked ≡ of_table order made → texts ≡ in_place table taken →
-    IsOutOfMemory reply ⊎ IsTextsReply files asked texts warnings reply → IsOutOfMemory reply ⊎ IsMadeReply files order taken warnings (apart.Said table) reply
-made_said files order asked made table taken texts warnings reply of same put (inl wanting) = inl wanting
-made_said files order asked made table taken texts warnings reply of same put (inr h) = inr (
-  made,
-  of,
-  subst (λ (o : Order). IsTextsReply files o (in_place table taken) warnings reply) same (subst (λ (ts : List Text). IsTextsReply files asked ts warnings reply) put h),
-)
+-- mintc's own answer where there is a design with edges apart: of its table, or that none can say it
+pub table_told : (files : Option Files) (order asked : Order) (design : Design) (table : Text) (taken texts : List Text) (warnings : Text) (reply : Reply) → IsToldApart design (apart.Said table) → asked ≡ of_table order →
+    texts ≡ in_place table taken → IsOutOfMemory reply ⊎ IsTextsReply files None asked texts warnings reply → IsOutOfMemory reply ⊎ IsOwnReply files order taken warnings design reply
+table_told files order asked design table taken texts warnings reply told same put (inl wanting) = inl wanting
+table_told files order asked design table taken texts warnings reply told same put (inr h) =
+    let own : IsTableReply files order taken warnings (apart.Said table) reply =
+    subst (λ (o : Order). IsTextsReply files None o (in_place table taken) warnings reply) same (subst (λ (ts : List Text). IsTextsReply files None asked ts warnings reply) put h) in
+    inr (apart.Said table, told, own)
+
+pub table_untold : (files : Option Files) (order : Order) (design : Design) (obstacle : Obstacle) (taken : List Text) (warnings : Text) (reply : Reply) → IsToldApart design (apart.Unsaid obstacle) → IsMessage Found reply →
+    IsOutOfMemory reply ⊎ IsOwnReply files order taken warnings design reply
+table_untold files order design obstacle taken warnings reply told h = inr (apart.Unsaid obstacle, told, h)
+
+-- the reply where there is a design with edges apart, by whether mintc's own answer is asked for
+pub made_own : (files : Option Files) (order : Order) (taken : List Text) (warnings : Text) (design : Design) (reply : Reply) → is_own order ≡ true →
+    IsOutOfMemory reply ⊎ IsOwnReply files order taken warnings design reply → IsOutOfMemory reply ⊎ IsMadeReply files order taken warnings design reply
+made_own files order taken warnings design reply is (inl wanting) = inl wanting
+made_own files order taken warnings design reply is (inr h) = inr (inl (is, h))
+
+pub made_shown : (files : Option Files) (order : Order) (taken : List Text) (warnings : Text) (design : Design) (reply : Reply) → is_own order ≡ false →
+    IsOutOfMemory reply ⊎ IsTextsReply files (Some design) order taken warnings reply → IsOutOfMemory reply ⊎ IsMadeReply files order taken warnings design reply
+made_shown files order taken warnings design reply is (inl wanting) = inl wanting
+made_shown files order taken warnings design reply is (inr h) = inr (inr (is, h))
 
 -- the reply to an order of a design with edges apart
-pub apart_made : (files : Option Files) (order : Order) (taken : List Text) (warnings : Text) (told : Apart) (reply : Reply) → IsMade order taken told →
-    IsOutOfMemory reply ⊎ IsMadeReply files order taken warnings told reply → IsOutOfMemory reply ⊎ IsApartReply files order taken warnings reply
-apart_made files order taken warnings told reply made (inl wanting) = inl wanting
-apart_made files order taken warnings told reply made (inr h) = inr (inr (told, made, h))
+pub apart_made : (files : Option Files) (order : Order) (taken : List Text) (warnings : Text) (design : Design) (reply : Reply) → IsMade order taken design →
+    IsOutOfMemory reply ⊎ IsMadeReply files order taken warnings design reply → IsOutOfMemory reply ⊎ IsApartReply files order taken warnings reply
+apart_made files order taken warnings design reply made (inl wanting) = inl wanting
+apart_made files order taken warnings design reply made (inr h) = inr (inr (design, made, h))
 
 pub apart_halted : (files : Option Files) (order : Order) (taken : List Text) (warnings : Text) (why : Halt) (reply : Reply) → IsUnmade order taken why → IsHaltReply files order why reply →
     IsOutOfMemory reply ⊎ IsApartReply files order taken warnings reply
@@ -109,7 +124,7 @@ design_apart files order fronts taken given warnings reply is warned (inl wantin
 design_apart files order fronts taken given warnings reply is warned (inr h) = inr (warnings, warned, inr (is, h))
 
 pub design_merged : (files : Option Files) (order : Order) (fronts taken given : List Text) (warnings : Text) (reply : Reply) → order.call.apart ≡ false → AreAllWarned order fronts given warnings →
-    IsOutOfMemory reply ⊎ IsTextsReply files order given warnings reply → IsOutOfMemory reply ⊎ IsWarnedReply files order fronts taken given reply
+    IsOutOfMemory reply ⊎ IsTextsReply files None order given warnings reply → IsOutOfMemory reply ⊎ IsWarnedReply files order fronts taken given reply
 design_merged files order fronts taken given warnings reply is warned (inl wanting) = inl wanting
 design_merged files order fronts taken given warnings reply is warned (inr h) = inr (warnings, warned, inl (is, h))
 

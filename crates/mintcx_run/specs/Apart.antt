@@ -1,17 +1,16 @@
--- A table of the design with edges apart, in the place of the four files of an order.
-use Rattle.std.specs.Prelude.{◌≡◌, ◌⊎◌, ◌++◌, ◌∷◌, Bool, true, false, List, take, drop, Some}
+-- The design with edges apart of an order of four files, and a table in their place.
+use Rattle.std.specs.Prelude.{◌⊎◌, ◌++◌, ◌∷◌, Bool, true, false, List, take, drop}
 use Rattle.mintc_text.specs.Limits.{large}
+use Rattle.mintc_timing.specs.Design.{Design}
 use Rattle.mintc_command_answers.specs.Commands.{roles_of}
-use Rattle.mintc_command_answers.specs.Sources.{AreShort, IsLengthRefusal, file_at}
+use Rattle.mintc_command_answers.specs.Sources.{AreShort, IsLengthRefusal}
 use Rattle.mintc_command_answers.specs.declared.command.Command.{Command}
 use Rattle.mintc_command_answers.specs.declared.command.Command.TheVariants.{OfDesign}
 use Rattle.mintc_command_answers.specs.declared.command.Source.TheVariants as source
-use Rattle.mintcx_apart.specs.Apart.{HasTableApart, IsHaltApart}
-use Rattle.mintcx_apart.specs.declared.apart.Apart.{Apart}
+use Rattle.mintcx_apart.specs.Apart.{IsDesignApart, IsHaltApart}
 use Rattle.mintcx_edges.specs.declared.halt.Halt.{Halt}
 use Rattle.mintcx_edges.specs.declared.halt.Halt.TheVariants as halt
 use Rattle.mintcx_requests.specs.Requests.{Text}
-use Rattle.mintcx_run.specs.declared.orders.Made.{Made}
 use Rattle.mintcx_run.specs.declared.orders.Order.{Order}
 
 -- the cells of a command are those of a library, which is described for it or not
@@ -36,13 +35,9 @@ abbrev pub on_table : Command → Command
 on_table (OfDesign job from) = OfDesign job source.Table
 on_table command = command
 
--- the clock description of the four texts that a table is made of
-abbrev pub IsMadeOf : List Text → Made → Type 0
-IsMadeOf taken made = made.clock.text ≡ file_at taken 3
-
--- An order of four files, asked of a table in their place, which is made of them and goes by the name of the netlist.
-abbrev pub of_table : Order → Made → Order
-of_table order made = record {
+-- An order of four files, asked of a table in their place, which goes by the name of the netlist.
+abbrev pub of_table : Order → Order
+of_table order = record {
   call = record {
     command = on_table order.call.command;
     aspect = order.call.aspect;
@@ -54,7 +49,6 @@ of_table order made = record {
     certificate = order.call.certificate;
   };
   manner = order.manner;
-  made = Some made;
 }
 
 -- the first text that is too long is told, of all texts of an order
@@ -62,9 +56,10 @@ abbrev pub IsLongHalt : Order → List Text → Halt → Type 0
 IsLongHalt order taken (halt.Refused refused) = IsLengthRefusal large (roles_of order.call.command) taken refused
 IsLongHalt order taken why = ⊥
 
--- What is told of the design with edges apart of what is taken of the files of an order, of which none is too long.
-abbrev pub IsMade : Order → List Text → Apart → Type 0
-IsMade order taken told = AreShort large taken × HasTableApart large (has_library order) order.call.gates taken told
+-- The design with edges apart of what is taken of the files of an order, of which none is too long.
+abbrev pub IsMade : Order → List Text → Design → Type 0
+IsMade order taken design = AreShort large taken
+    × IsDesignApart large (has_library order) order.call.gates taken design
 
 -- Why there is none: a text is too long, or so it is of the design.
 abbrev pub IsUnmade : Order → List Text → Halt → Type 0

@@ -10,8 +10,9 @@ use Rattle.mintc_text.specs.declared.refusals.Refusal.{Refusal}
 use Rattle.mintc_text.specs.declared.refusals.Refusal.TheVariants as refusal
 use Rattle.mintc_text.specs.declared.refusals.Role.TheVariants as role
 use Rattle.mintc_text.specs.Outside.{Files, IsFront}
+use Rattle.mintc_timing.specs.Design.{Design}
 use Rattle.mintc_command.specs.Answers.{AreFronts}
-use Rattle.mintc_command_answers.specs.Answers.{IsDefined, IsFirstRefusal, IsOfCommand}
+use Rattle.mintc_command_answers.specs.Answers.{IsDefined, IsOfCommand}
 use Rattle.mintc_command_answers.specs.Sources.{file_at}
 use Rattle.mintc_command_answers.specs.declared.command.Command.{Command}
 use Rattle.mintc_command_answers.specs.declared.command.Command.TheVariants.{OfDesign, Sample, Corners}
@@ -59,7 +60,7 @@ use Rattle.mintcx_words.specs.Misread.{IsReading}
 use Rattle.mintcx_words.specs.declared.words.Misread.{Misread}
 use Rattle.mintcx_words.specs.declared.words.Misread.TheVariants as misread
 use Rattle.mintcx_answers.specs.Answers.{HasAnswer, HasCertificate}
-use Rattle.mintcx_answers.specs.Clocks.{HasClocks, HasClocksBeside}
+use Rattle.mintcx_answers.specs.Clocks.{HasClocks}
 use Rattle.mintcx_answers.specs.declared.clocks.Clocks.{Clocks}
 use Rattle.mintcx_answers.specs.declared.clocks.Clocks.TheVariants as clocks
 use Rattle.mintcx_answers.specs.declared.clocks.Stated.{Stated}
@@ -69,6 +70,7 @@ use Rattle.mintcx_answers.specs.declared.pictures.Motif.{Motif}
 use Rattle.mintcx_answers.specs.declared.pictures.Motif.TheVariants as motif
 use Rattle.mintcx_answers.specs.declared.pictures.Pictured.{Pictured}
 use Rattle.mintcx_answers.specs.declared.pictures.Pictured.TheVariants as pictured
+use Rattle.mintcx_answers.specs.Shown.{IsFirstRefusalFor}
 use Rattle.mintcx_answers.specs.Tables.{HasTable}
 use Rattle.mintcx_answers.specs.declared.tables.Tabled.{Tabled}
 use Rattle.mintcx_answers.specs.declared.tables.Tabled.TheVariants as tabled
@@ -76,7 +78,6 @@ use Rattle.mintcx_picture.specs.declared.drawn.Drawn.TheVariants as drawn
 use Rattle.mintcx_sdc.specs.declared.text.Titles.{Titles}
 use Rattle.mintcx_frame.specs.declared.view.View.{View}
 use Rattle.mintcx_run.specs.declared.answers.Told.{Told}
-use Rattle.mintcx_run.specs.declared.orders.Made.{Made}
 use Rattle.mintcx_run.specs.declared.orders.Order.{Order}
 use Rattle.mintcx_run.specs.declared.reply.Beside.{Beside}
 use Rattle.mintcx_run.specs.declared.reply.Place.{Place}
@@ -84,11 +85,12 @@ use Rattle.mintcx_run.specs.declared.reply.Place.TheVariants as place
 use Rattle.mintcx_run.specs.declared.reply.Reply.{Reply}
 use Rattle.mintcx_clock_cells.specs.declared.unfit.Unfit.{Unfit}
 use Rattle.mintcx_clock_cells.specs.declared.unfit.Unfit.TheVariants as unfit
+use Rattle.mintcx_apart.specs.Apart.{IsToldApart}
 use Rattle.mintcx_apart.specs.declared.apart.Apart.{Apart}
 use Rattle.mintcx_apart.specs.declared.apart.Apart.TheVariants as apart
 use Rattle.mintcx_edges.specs.declared.halt.Halt.{Halt}
 use Rattle.mintcx_edges.specs.declared.halt.Halt.TheVariants as halt
-use Rattle.mintcx_run.specs.Apart.{IsMade, IsMadeOf, IsUnmade, in_place, of_table}
+use Rattle.mintcx_run.specs.Apart.{IsMade, IsUnmade, in_place, of_table}
 use Rattle.mintcx_run.specs.Libraries.{AreGiven, IsUndescribed}
 use Rattle.mintcx_run.specs.Taken.{AreTaken}
 use Rattle.mintcx_run.specs.Warned.{AreAllWarned}
@@ -173,7 +175,7 @@ IsSettingsReply files (Some name) reply = IsSilentIn files name reply ⊎ IsUnre
 abbrev pub IsOrderOf : Request → Order → Type 0
 IsOrderOf (request.Explain topic) order = ⊥
 IsOrderOf (request.OfDesign what files clamp manner) order =
-    (call_for manner.format clamp what files ≡ Ok order.call) × (order.manner ≡ manner) × (order.made ≡ None)
+    (call_for manner.format clamp what files ≡ Ok order.call) × (order.manner ≡ manner)
 
 -- something of a task on a design isn't there yet, and it is said
 abbrev pub IsGapReply : Request → Reply → Type 0
@@ -254,15 +256,15 @@ certified_of command name = None
 abbrev pub certified_source : Call → Option Source
 certified_source call = certified_of call.command call.certificate
 
--- an optimum for people, with its certificate
-abbrev pub IsCertified : Source → List Text → View → Told → Type 0
-IsCertified from fronts view told = (written : Text) × (told.certificate ≡ Some written)
-    × (told.is_message ≡ false) × HasCertificate large from fronts view told.status told.text written
+-- an optimum for people, with its certificate; of the design at hand, where there is one, as all that follows
+abbrev pub IsCertified : Option Design → Source → List Text → View → Told → Type 0
+IsCertified shown from fronts view told = (written : Text) × (told.certificate ≡ Some written)
+    × (told.is_message ≡ false) × HasCertificate large shown from fronts view told.status told.text written
 
 -- an answer for people, with no certificate
-abbrev pub IsLone : Order → List Text → View → Told → Type 0
-IsLone order fronts view told = (told.certificate ≡ None) × (told.is_message ≡ false) × ((beside : List Text)
-    × HasAnswer large order.call.command order.call.aspect beside fronts view told.status told.text)
+abbrev pub IsLone : Option Design → Order → List Text → View → Told → Type 0
+IsLone shown order fronts view told = (told.certificate ≡ None) × (told.is_message ≡ false) × ((beside : List Text)
+    × HasAnswer large shown order.call.command order.call.aspect beside fronts view told.status told.text)
 
 -- what is told is this text
 abbrev pub IsText : Status → Text → Told → Type 0
@@ -277,21 +279,9 @@ IsToldOf (clocks.Denied text) told = IsText Found text told
 IsToldOf (clocks.Unsaid obstacle) told = (told.status ≡ Found) × (told.is_message ≡ true) × (told.certificate ≡ None)
 
 -- the clocks of a schedule that is stated so beside a design; what they are called after isn't said
-abbrev pub AreClocks : Stated → Source → List Text → View → Told → Type 0
-AreClocks stated from fronts view told = (titles : Titles) × (what : Clocks)
-    × HasClocks large stated from titles view fronts what × IsToldOf what told
-
--- the same of a schedule behind a table that is made of files, whose clock description stands beside
-abbrev pub AreMadeClocks : Made → Stated → List Text → View → Told → Type 0
-AreMadeClocks made stated fronts view told = (titles : Titles) × (what : Clocks)
-    × HasClocksBeside large stated made.clock.text titles view fronts what × IsToldOf what told
-
--- the clocks of a schedule beside a design, or behind a table that is made
-abbrev pub AreClocksOf : Option Made → Stated → Source → List Text → View → Told → Type 0
-AreClocksOf made stated source.Files fronts view told = AreClocks stated source.Files fronts view told
-AreClocksOf made stated source.Liberty fronts view told = AreClocks stated source.Liberty fronts view told
-AreClocksOf (Some made) stated source.Table fronts view told = AreMadeClocks made stated fronts view told
-AreClocksOf None stated source.Table fronts view told = AreClocks stated source.Table fronts view told
+abbrev pub AreClocks : Option Design → Stated → Source → List Text → View → Told → Type 0
+AreClocks shown stated from fronts view told = (titles : Titles) × (what : Clocks)
+    × HasClocks large shown stated from titles view fronts what × IsToldOf what told
 
 -- it is told that nothing is drawn
 abbrev pub IsUndrawn : Told → Type 0
@@ -305,9 +295,9 @@ IsToldPicture (pictured.Shown nothing) told = IsUndrawn told
 IsToldPicture (pictured.Denied text) told = IsText Found text told
 
 -- A picture of a design and of the file beside it; what the design is called isn't said.
-abbrev pub IsPictured : Motif → Source → List Text → View → Told → Type 0
-IsPictured shows from fronts view told = (design : Text) × (what : Pictured)
-    × HasPicture large shows from design view fronts what × IsToldPicture what told
+abbrev pub IsPictured : Option Design → Motif → Source → List Text → View → Told → Type 0
+IsPictured shown shows from fronts view told = (design : Text) × (what : Pictured)
+    × HasPicture large shown shows from design view fronts what × IsToldPicture what told
 
 -- what is drawn for a job, where there is a picture
 abbrev pub motif_of : Job → Option Motif
@@ -318,9 +308,9 @@ motif_of Slack = Some motif.Slacks
 motif_of job = None
 
 -- the picture for a job, or another answer
-abbrev pub IsOfMotif : Option Motif → Source → Order → List Text → View → Told → Type 0
-IsOfMotif (Some shows) from order fronts view told = IsPictured shows from fronts view told
-IsOfMotif None from order fronts view told = IsLone order fronts view told
+abbrev pub IsOfMotif : Option Motif → Source → Option Design → Order → List Text → View → Told → Type 0
+IsOfMotif (Some shows) from shown order fronts view told = IsPictured shown shows from fronts view told
+IsOfMotif None from shown order fronts view told = IsLone shown order fronts view told
 
 -- what is told where a table is asked for: the table, or a message that no table can say the design
 abbrev pub IsToldTable : Tabled → Told → Type 0
@@ -328,35 +318,36 @@ IsToldTable (tabled.Said text) told = IsText Done text told
 IsToldTable (tabled.Unsaid obstacle) told =
     (told.status ≡ Found) × (told.is_message ≡ true) × (told.certificate ≡ None)
 
--- The design that files stand for, as one table.
-abbrev pub IsTable : Source → List Text → Told → Type 0
-IsTable from fronts told = (what : Tabled) × HasTable large from fronts what × IsToldTable what told
+-- The design that files stand for, or the one at hand, as one table.
+abbrev pub IsTable : Option Design → Source → List Text → Told → Type 0
+IsTable shown from fronts told = (what : Tabled) × HasTable large shown from fronts what × IsToldTable what told
 
 -- an answer for people without a certificate beside it: clocks, a picture, a table, or another one
-abbrev pub IsByAspect : Aspect → Command → Order → List Text → View → Told → Type 0
-IsByAspect aspect.Clocks (OfDesign Check from) order fronts view told =
-    AreClocksOf order.made stated.Schedule from fronts view told
-IsByAspect aspect.Clocks (OfDesign Verify from) order fronts view told =
-    AreClocksOf order.made stated.Certificate from fronts view told
-IsByAspect aspect.Picture (OfDesign job from) order fronts view told =
-    IsOfMotif (motif_of job) from order fronts view told
-IsByAspect aspect.Table (OfDesign Optimise from) order fronts view told = IsTable from fronts told
-IsByAspect aspect command order fronts view told = IsLone order fronts view told
+abbrev pub IsByAspect : Aspect → Command → Option Design → Order → List Text → View → Told → Type 0
+IsByAspect aspect.Clocks (OfDesign Check from) shown order fronts view told =
+    AreClocks shown stated.Schedule from fronts view told
+IsByAspect aspect.Clocks (OfDesign Verify from) shown order fronts view told =
+    AreClocks shown stated.Certificate from fronts view told
+IsByAspect aspect.Picture (OfDesign job from) shown order fronts view told =
+    IsOfMotif (motif_of job) from shown order fronts view told
+IsByAspect aspect.Table (OfDesign Optimise from) shown order fronts view told = IsTable shown from fronts told
+IsByAspect aspect command shown order fronts view told = IsLone shown order fronts view told
 
-abbrev pub IsUncertified : Order → List Text → View → Told → Type 0
-IsUncertified order fronts view told = IsByAspect order.call.aspect order.call.command order fronts view told
+abbrev pub IsUncertified : Option Design → Order → List Text → View → Told → Type 0
+IsUncertified shown order fronts view told =
+    IsByAspect order.call.aspect order.call.command shown order fronts view told
 
 -- with its certificate, or without
-abbrev pub IsShown : Option Source → Order → List Text → View → Told → Type 0
-IsShown (Some from) order fronts view told = IsCertified from fronts view told
-IsShown None order fronts view told = IsUncertified order fronts view told
+abbrev pub IsAnswer : Option Source → Option Design → Order → List Text → View → Told → Type 0
+IsAnswer (Some from) shown order fronts view told = IsCertified shown from fronts view told
+IsAnswer None shown order fronts view told = IsUncertified shown order fronts view told
 
 -- the answer to a call for people, in the unit and with the rows that are asked
-pub record IsForPeople (order : Order) (fronts : List Text) (told : Told) : Type 0 where
+pub record IsForPeople (shown : Option Design) (order : Order) (fronts : List Text) (told : Told) : Type 0 where
   pub view : View
   pub unit : view.unit ≡ order.manner.unit
   pub limit : view.limit ≡ order.manner.limit
-  pub shown : IsShown (certified_source order.call) order fronts view told
+  pub answer : IsAnswer (certified_source order.call) shown order fronts view told
   pub of_command : IsOfCommand told.status
 
 -- the form is mintc's
@@ -377,24 +368,21 @@ abbrev pub is_own : Order → Bool
 is_own order = is_plain order.manner.format && not (has_one_form order.call.aspect)
 
 -- the answer in its form
-abbrev pub IsAnswered : Order → List Text → Told → Type 0
-IsAnswered order fronts told = ((is_own order ≡ true) × IsPlain order fronts told)
-    ⊎ ((is_own order ≡ false) × IsForPeople order fronts told)
+abbrev pub IsAnswered : Option Design → Order → List Text → Told → Type 0
+IsAnswered shown order fronts told = ((is_own order ≡ true) × IsPlain order fronts told)
+    ⊎ ((is_own order ≡ false) × IsForPeople shown order fronts told)
 
--- there is none in the form for people: mintc's first refusal
-abbrev pub IsRefused : Order → List Text → Refusal → Type 0
-IsRefused order fronts refused = (is_own order ≡ false) × IsFirstRefusal large order.call.command fronts refused
+-- there is none in the form for people: mintc's first refusal, or that of the design at hand
+abbrev pub IsRefused : Option Design → Order → List Text → Refusal → Type 0
+IsRefused shown order fronts refused =
+    (is_own order ≡ false) × IsFirstRefusalFor large shown order.call.command fronts refused
 
 -- ---- refusals, as they are told
-
--- the file of a number, counted from 0, is one: a table that is made is the first, and stands in none
-abbrev pub IsStanding : Order → ℕ → Type 0
-IsStanding order n = (order.made ≡ None) ⊎ (0 < n)
 
 -- The first bytes of the file that a refusal speaks of, one more than a file may have; or none.
 abbrev pub IsRefusedFile : Option Files → Order → Refusal → Text → Type 0
 IsRefusedFile files order refused file = (file ≡ []) ⊎ ((n : ℕ) × IsFile (roles_of order.call.command) refused n
-    × IsStanding order n × IsFront files (slice_index_or order.call.files n []) (MOST_BYTES + 1) file)
+    × IsFront files (slice_index_or order.call.files n []) (MOST_BYTES + 1) file)
 
 -- the answer is an object, and so is a refusal
 abbrev pub is_object : Format → Bool
@@ -513,26 +501,27 @@ IsCornerReply files order corner own reply = IsOutOfMemory reply
 
 -- ---- the reply
 
--- the answer to an order of the texts that are given, where it wants it, with these warnings
-abbrev pub IsAnswerReply : Order → List Text → Text → Reply → Type 0
-IsAnswerReply order given warnings reply = (told : Told) × IsAnswered order given told × IsPlaced order told reply
-    × (reply.warnings ≡ warnings)
+-- the answer to an order of the texts that are given, where it wants it, with these warnings; for people it is one of
+-- the design at hand, where there is one
+abbrev pub IsAnswerReply : Option Design → Order → List Text → Text → Reply → Type 0
+IsAnswerReply shown order given warnings reply = (told : Told) × IsAnswered shown order given told
+    × IsPlaced order told reply × (reply.warnings ≡ warnings)
 
 -- why there is none: the files are refused
-abbrev pub IsDeniedReply : Option Files → Order → List Text → Reply → Type 0
-IsDeniedReply files order given reply =
-    (refused : Refusal) × IsRefused order given refused × IsRefusalReply files order refused reply
+abbrev pub IsDeniedReply : Option Files → Option Design → Order → List Text → Reply → Type 0
+IsDeniedReply files shown order given reply =
+    (refused : Refusal) × IsRefused shown order given refused × IsRefusalReply files order refused reply
 
 -- or a corner is, which is the first whose own files are refused
-abbrev pub IsDeniedCorner : Option Files → Order → List Text → Reply → Type 0
-IsDeniedCorner files order given reply = (corner : ℕ) × (own : Refusal)
-    × IsRefused order given (refusal.Corner corner) × IsFirstRefused large (corners_of given) 1 corner own
+abbrev pub IsDeniedCorner : Option Files → Option Design → Order → List Text → Reply → Type 0
+IsDeniedCorner files shown order given reply = (corner : ℕ) × (own : Refusal)
+    × IsRefused shown order given (refusal.Corner corner) × IsFirstRefused large (corners_of given) 1 corner own
     × IsCornerReply files order corner own reply
 
 -- the reply to an order of the texts that are given: its answer, or why there is none
-abbrev pub IsTextsReply : Option Files → Order → List Text → Text → Reply → Type 0
-IsTextsReply files order given warnings reply = IsAnswerReply order given warnings reply
-    ⊎ (IsDeniedReply files order given reply ⊎ IsDeniedCorner files order given reply)
+abbrev pub IsTextsReply : Option Files → Option Design → Order → List Text → Text → Reply → Type 0
+IsTextsReply files shown order given warnings reply = IsAnswerReply shown order given warnings reply
+    ⊎ (IsDeniedReply files shown order given reply ⊎ IsDeniedCorner files shown order given reply)
 
 -- why there is no design with edges apart: its refusal, or a message on a gate
 abbrev pub IsHaltReply : Option Files → Order → Halt → Reply → Type 0
@@ -540,23 +529,33 @@ IsHaltReply files order (halt.Refused refused) reply = IsRefusalReply files orde
 IsHaltReply files order halt.OutOfMemory reply = IsOutOfMemory reply
 IsHaltReply files order gate reply = IsMessage Usage reply
 
--- the reply where there is one: that to the order, asked of its table in the place of the four files, or a message that
--- no table can say it
-abbrev pub IsMadeReply : Option Files → Order → List Text → Text → Apart → Reply → Type 0
-IsMadeReply files order taken warnings (apart.Said table) reply = (made : Made) × IsMadeOf taken made
-    × IsTextsReply files (of_table order made) (in_place table taken) warnings reply
-IsMadeReply files order taken warnings (apart.Unsaid obstacle) reply = IsMessage Found reply
+-- the reply to an order, asked of a table in the place of its four files, or a message that no table can say the design
+abbrev pub IsTableReply : Option Files → Order → List Text → Text → Apart → Reply → Type 0
+IsTableReply files order taken warnings (apart.Said table) reply =
+    IsTextsReply files None (of_table order) (in_place table taken) warnings reply
+IsTableReply files order taken warnings (apart.Unsaid obstacle) reply = IsMessage Found reply
+
+-- mintc's own answer where there is a design with edges apart: that to the design's table
+abbrev pub IsOwnReply : Option Files → Order → List Text → Text → Design → Reply → Type 0
+IsOwnReply files order taken warnings design reply =
+    (told : Apart) × IsToldApart design told × IsTableReply files order taken warnings told reply
+
+-- the reply where there is one: mintc's own answer, or what is told to people of the design itself
+abbrev pub IsMadeReply : Option Files → Order → List Text → Text → Design → Reply → Type 0
+IsMadeReply files order taken warnings design reply =
+    ((is_own order ≡ true) × IsOwnReply files order taken warnings design reply)
+    ⊎ ((is_own order ≡ false) × IsTextsReply files (Some design) order taken warnings reply)
 
 -- the reply to an order of the design with edges apart of what is taken of its files
 abbrev pub IsApartReply : Option Files → Order → List Text → Text → Reply → Type 0
 IsApartReply files order taken warnings reply =
     ((why : Halt) × IsUnmade order taken why × IsHaltReply files order why reply)
-    ⊎ ((told : Apart) × IsMade order taken told × IsMadeReply files order taken warnings told reply)
+    ⊎ ((design : Design) × IsMade order taken design × IsMadeReply files order taken warnings design reply)
 
 -- the reply to an order, by what it says of edges: of the texts that are given, or of what is taken of its files
 abbrev pub IsDesignReply : Option Files → Order → List Text → List Text → Text → Reply → Type 0
 IsDesignReply files order taken given warnings reply =
-    ((order.call.apart ≡ false) × IsTextsReply files order given warnings reply)
+    ((order.call.apart ≡ false) × IsTextsReply files None order given warnings reply)
     ⊎ ((order.call.apart ≡ true) × IsApartReply files order taken warnings reply)
 
 -- why a library has no description: its refusal, or a message on a gate
@@ -608,7 +607,6 @@ read_as order fronts = record {
     certificate = order.call.certificate;
   };
   manner = order.manner;
-  made = order.made;
 }
 
 -- The reply to a call of mintc over the files of a shelf: a file can't be read, or the answer in its form, of what is

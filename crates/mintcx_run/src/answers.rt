@@ -1,28 +1,29 @@
 //! What is answered to an order, of the first bytes of its files.
 ghost use Rattle.std.specs.Prelude.{◌≡◌, ◌<◌, ◌≤◌, true, length, List, ℕ, None, Some, IfSome, IfOk, IfErr};
 ghost use Rattle.mintc_text.specs.Limits.{large};
+ghost use Rattle.mintc_timing.specs.Limits.{IsWithinLimits};
 ghost use Rattle.mintc_text.specs.Stops.{StopsAt};
-ghost use Rattle.mintc_command_answers.specs.Answers.{IsFirstRefusal, IsOfCommand};
+ghost use Rattle.mintc_command_answers.specs.Answers.{IsOfCommand};
 ghost use Rattle.mintc_command_answers.specs.Commands.{IsNumberInRange, roles_of};
 ghost use Rattle.mintc_command_answers.specs.Corners.{IsFirstRefused, corners_of};
 ghost use Rattle.mintcx_answers.specs.Answers.{IsOnFiles};
 ghost use Rattle.mintcx_answers.specs.Clocks.{job_of};
 ghost use Rattle.mintcx_answers.specs.Halts.{HaltsAt};
 ghost use Rattle.mintcx_answers.specs.Pictures.{job_of as job_for};
-ghost use Rattle.mintcx_run.specs.Replies.{AreClocksOf, AreMadeClocks};
+ghost use Rattle.mintcx_answers.specs.Shown.{IsFirstRefusalFor};
 ghost use Rattle.mintcx_run.specs.Replies.{AreClocks, IsAnswered, IsCertified, IsForPeople};
 ghost use Rattle.mintcx_run.specs.Replies.{IsLone, IsPlain, IsRefused, certified_source};
 ghost use Rattle.mintcx_run.specs.Replies.{IsPictured, IsTable, IsToldOf, IsToldPicture, IsToldTable, IsUncertified};
 ghost use Rattle.mintcx_run.specs.Replies.{IsUndrawn, has_one_form, is_own, motif_of};
 
-use crate::orders::{Made, Order};
+use crate::orders::Order;
 use crate::unsaid::{ClockText, clock_among, unsaid_text};
 use mintc_command_answers::{Answer, Command, Job, Source, Status, answer_to};
-use mintc_text::{Bytes, Limits, Name, OutOfMemory, Stop};
+use mintc_text::{Bytes, Limits, OutOfMemory, Stop};
+use mintc_timing::Flat;
 use mintcx_answers::{
     Clocks, Halt, Motif, Pictured, Question, Sketch, Stated, Statement, Tabled, answer_text,
-    certified_text, clocks_text, clocks_text_beside, names_beside, picture_for, subject_of,
-    table_for, titles_of,
+    certified_text, clocks_text, names_beside, picture_for, subject_of, table_for, titles_of,
 };
 use mintcx_frame::View;
 use mintcx_manners::Format;
@@ -37,6 +38,13 @@ pub(crate) struct Told {
     pub(crate) text: Bytes,
     pub(crate) is_message: bool,
     pub(crate) certificate: Option<Bytes>,
+}
+
+/// An order that is answered for people, and how its answer is shown.
+#[derive(Clone, Copy)]
+struct Asked<'a> {
+    order: &'a Order,
+    view: &'a View,
 }
 
 /// mintc's own answer to a call.
@@ -61,10 +69,7 @@ fn view_of(alloc: Global, order: &Order, files: &[Bytes]) -> Result<View, OutOfM
     ensures unit { IfOk result (λ view. view.unit ≡ order.now.manner.unit) }
     ensures limit { IfOk result (λ view. view.limit ≡ order.now.manner.limit) }
 {
-    let subject = match &order.made {
-        Some(made) => Name::new(alloc, made.subject.bytes())?,
-        None => subject_of(alloc, order.call.command, order.call.files.items(), files)?,
-    };
+    let subject = subject_of(alloc, order.call.command, order.call.files.items(), files)?;
     Ok(View {
         subject,
         unit: order.manner.unit,
@@ -93,16 +98,18 @@ fn certified_source(call: &Call) -> Option<Source>
 fn certified_answer(
     alloc: Global,
     source: Source,
+    shown: Option<Flat>,
     view: &View,
     files: &mut [Bytes],
 ) -> Result<Told, Stop>
     requires count { length files.old ≡ length (roles_of (Command.OfDesign Job.Optimise source)) }
-    ensures value { IfOk result (IsCertified source files.old view.now) }
+    requires within { IfSome shown (IsWithinLimits large) }
+    ensures value { IfOk result (IsCertified shown source files.old view.now) }
     ensures of_command { IfOk result (λ told. IsOfCommand told.status) }
     ensures stop { IfErr result
-        (StopsAt (IsFirstRefusal large (Command.OfDesign Job.Optimise source) files.old)) }
+        (StopsAt (IsFirstRefusalFor large shown (Command.OfDesign Job.Optimise source) files.old)) }
 {
-    let told = certified_text(alloc, &Limits::large(), source, view, files)?;
+    let told = certified_text(alloc, &Limits::large(), source, shown, view, files)?;
     Ok(Told {
         status: told.answer.status,
         text: told.answer.text,
@@ -112,23 +119,31 @@ fn certified_answer(
 }
 
 /// The answer to a call for people, with no certificate beside it.
-fn lone_answer(alloc: Global, order: &Order, view: &View, files: &mut [Bytes]) -> Result<Told, Halt>
-    requires count { length files.old ≡ length (roles_of order.now.call.command) }
-    requires names { length order.now.call.files ≡ length (roles_of order.now.call.command) }
-    requires in_range { IsNumberInRange order.now.call.command }
-    requires on_files { IsOnFiles order.now.call.command }
-    ensures value { IfOk result (IsLone order.now files.old view.now) }
+fn lone_answer(
+    alloc: Global,
+    asked: &Asked<'_>,
+    shown: Option<Flat>,
+    files: &mut [Bytes],
+) -> Result<Told, Halt>
+    requires count { length files.old ≡ length (roles_of asked.now.order.now.call.command) }
+    requires names { length asked.now.order.now.call.files ≡ length (roles_of asked.now.order.now.call.command) }
+    requires in_range { IsNumberInRange asked.now.order.now.call.command }
+    requires on_files { IsOnFiles asked.now.order.now.call.command }
+    requires within { IfSome shown (IsWithinLimits large) }
+    ensures value { IfOk result (IsLone shown asked.now.order.now files.old asked.now.view.now) }
     ensures of_command { IfOk result (λ told. IsOfCommand told.status) }
-    ensures halt { IfErr result (HaltsAt (IsFirstRefusal large order.now.call.command files.old)
+    ensures halt { IfErr result (HaltsAt (IsFirstRefusalFor large shown asked.now.order.now.call.command files.old)
         (IsFirstRefused large (corners_of files.old) 1)) }
 {
+    let order = asked.order;
     let beside = names_beside(alloc, order.call.command, order.call.files.items(), files)?;
     let question = Question {
         command: order.call.command,
         aspect: order.call.aspect,
         beside: beside.items(),
     };
-    let Answer { status, text } = answer_text(alloc, &Limits::large(), &question, view, files)?;
+    let limits = Limits::large();
+    let Answer { status, text } = answer_text(alloc, &limits, &question, shown, asked.view, files)?;
     Ok(Told {
         status,
         text,
@@ -141,7 +156,7 @@ fn lone_answer(alloc: Global, order: &Order, view: &View, files: &mut [Bytes]) -
 fn told_of(
     alloc: Global,
     clocks: Clocks,
-    clock: Option<&ClockText>,
+    clock: &Option<ClockText>,
     view: &View,
 ) -> Result<Told, OutOfMemory>
     ensures value { IfOk result (IsToldOf clocks) }
@@ -172,87 +187,31 @@ fn told_of(
 /// The clocks of a schedule that is stated in the last file.
 fn clocks_answer(
     alloc: Global,
+    asked: &Asked<'_>,
     stated: Stated,
     source: Source,
-    names: &[Name],
-    view: &View,
+    shown: Option<Flat>,
     files: &mut [Bytes],
 ) -> Result<Told, Stop>
     requires count { length files.old ≡ length (roles_of (Command.OfDesign (job_of stated) source)) }
-    requires names { length names.now ≡ length files.old }
-    ensures value { IfOk result (AreClocks stated source files.old view.now) }
+    requires names { length asked.now.order.now.call.files ≡ length files.old }
+    requires within { IfSome shown (IsWithinLimits large) }
+    ensures value { IfOk result (AreClocks shown stated source files.old asked.now.view.now) }
     ensures of_command { IfOk result (λ told. IsOfCommand told.status) }
     ensures stop { IfErr result
-        (StopsAt (IsFirstRefusal large (Command.OfDesign (job_of stated) source) files.old)) }
+        (StopsAt (IsFirstRefusalFor large shown (Command.OfDesign (job_of stated) source) files.old)) }
 {
+    let names = asked.order.call.files.items();
     let titles = titles_of(alloc, source, names, files)?;
     let clock = clock_among(alloc, source, names, files)?;
-    let asked = Statement {
+    let statement = Statement {
         source,
         stated,
         titles: &titles,
-        view,
+        view: asked.view,
     };
-    let clocks = clocks_text(alloc, &Limits::large(), &asked, files)?;
-    Ok(told_of(alloc, clocks, clock.as_ref(), view)?)
-}
-
-/// The clocks of a schedule that is stated behind a table that is made of files.
-fn made_clocks(
-    alloc: Global,
-    stated: Stated,
-    made: &Made,
-    names: &[Name],
-    view: &View,
-    files: &mut [Bytes],
-) -> Result<Told, Stop>
-    requires count { length files.old ≡ length (roles_of (Command.OfDesign (job_of stated) Source.Table)) }
-    requires names { length names.now ≡ length files.old }
-    ensures value { IfOk result (AreMadeClocks made.now stated files.old view.now) }
-    ensures of_command { IfOk result (λ told. IsOfCommand told.status) }
-    ensures stop { IfErr result
-        (StopsAt (IsFirstRefusal large (Command.OfDesign (job_of stated) Source.Table) files.old)) }
-{
-    let own = titles_of(alloc, Source::Table, names, files)?;
-    let asked = Statement {
-        source: Source::Table,
-        stated,
-        titles: match &made.titles {
-            Some(titles) => titles,
-            None => &own,
-        },
-        view,
-    };
-    let text = made.clock.text.items();
-    let clocks = clocks_text_beside(alloc, &Limits::large(), &asked, text, files)?;
-    Ok(told_of(alloc, clocks, Some(&made.clock), view)?)
-}
-
-/// The clocks of a schedule that is stated in the last file of an order.
-fn stated_clocks(
-    alloc: Global,
-    order: &Order,
-    stated: Stated,
-    source: Source,
-    view: &View,
-    files: &mut [Bytes],
-) -> Result<Told, Stop>
-    requires count { length files.old ≡ length (roles_of (Command.OfDesign (job_of stated) source)) }
-    requires names { length order.now.call.files ≡ length files.old }
-    ensures value { IfOk result (AreClocksOf order.now.made stated source files.old view.now) }
-    ensures of_command { IfOk result (λ told. IsOfCommand told.status) }
-    ensures stop { IfErr result
-        (StopsAt (IsFirstRefusal large (Command.OfDesign (job_of stated) source) files.old)) }
-{
-    let names = order.call.files.items();
-    match source {
-        Source::Table => match &order.made {
-            Some(made) => made_clocks(alloc, stated, made, names, view, files),
-            None => clocks_answer(alloc, stated, Source::Table, names, view, files),
-        },
-        Source::Files => clocks_answer(alloc, stated, Source::Files, names, view, files),
-        Source::Liberty => clocks_answer(alloc, stated, Source::Liberty, names, view, files),
-    }
+    let clocks = clocks_text(alloc, &Limits::large(), &statement, shown, files)?;
+    Ok(told_of(alloc, clocks, &clock, asked.view)?)
 }
 
 /// A message that nothing is drawn, and why.
@@ -313,19 +272,21 @@ fn motif_of(job: Job) -> Option<Motif>
 /// A picture of a design and of the file beside it.
 fn picture_answer(
     alloc: Global,
+    asked: &Asked<'_>,
     motif: Motif,
     source: Source,
-    names: &[Name],
-    view: &View,
+    shown: Option<Flat>,
     files: &mut [Bytes],
 ) -> Result<Told, Stop>
     requires count { length files.old ≡ length (roles_of (Command.OfDesign (job_for motif) source)) }
-    requires names { length names.now ≡ length files.old }
-    ensures value { IfOk result (IsPictured motif source files.old view.now) }
+    requires names { length asked.now.order.now.call.files ≡ length files.old }
+    requires within { IfSome shown (IsWithinLimits large) }
+    ensures value { IfOk result (IsPictured shown motif source files.old asked.now.view.now) }
     ensures of_command { IfOk result (λ told. IsOfCommand told.status) }
     ensures stop { IfErr result
-        (StopsAt (IsFirstRefusal large (Command.OfDesign (job_for motif) source) files.old)) }
+        (StopsAt (IsFirstRefusalFor large shown (Command.OfDesign (job_for motif) source) files.old)) }
 {
+    let names = asked.order.call.files.items();
     let command = Command::OfDesign {
         job: motif.job(),
         source,
@@ -336,7 +297,8 @@ fn picture_answer(
         motif,
         beside: beside.items(),
     };
-    let pictured = picture_for(alloc, &Limits::large(), &sketch, view, files)?;
+    let limits = Limits::large();
+    let pictured = picture_for(alloc, &limits, &sketch, shown, asked.view, files)?;
     Ok(told_picture(alloc, pictured)?)
 }
 
@@ -365,78 +327,93 @@ fn told_table(alloc: Global, tabled: Tabled) -> Result<Told, OutOfMemory>
 }
 
 /// A design as one table.
-fn table_answer(alloc: Global, source: Source, files: &mut [Bytes]) -> Result<Told, Stop>
-    requires { length files.old ≡ length (roles_of (Command.OfDesign Job.Optimise source)) }
-    ensures value { IfOk result (IsTable source files.old) }
+fn table_answer(
+    alloc: Global,
+    source: Source,
+    shown: Option<Flat>,
+    files: &mut [Bytes],
+) -> Result<Told, Stop>
+    requires count { length files.old ≡ length (roles_of (Command.OfDesign Job.Optimise source)) }
+    requires within { IfSome shown (IsWithinLimits large) }
+    ensures value { IfOk result (IsTable shown source files.old) }
     ensures of_command { IfOk result (λ told. IsOfCommand told.status) }
     ensures stop { IfErr result
-        (StopsAt (IsFirstRefusal large (Command.OfDesign Job.Optimise source) files.old)) }
+        (StopsAt (IsFirstRefusalFor large shown (Command.OfDesign Job.Optimise source) files.old)) }
 {
-    let tabled = table_for(alloc, &Limits::large(), source, files)?;
+    let tabled = table_for(alloc, &Limits::large(), source, shown, files)?;
     Ok(told_table(alloc, tabled)?)
 }
 
 /// The answer to a call for people, of an optimum without a certificate beside it.
 fn uncertified_answer(
     alloc: Global,
-    order: &Order,
-    view: &View,
+    asked: &Asked<'_>,
+    shown: Option<Flat>,
     files: &mut [Bytes],
 ) -> Result<Told, Halt>
-    requires count { length files.old ≡ length (roles_of order.now.call.command) }
-    requires names { length order.now.call.files ≡ length (roles_of order.now.call.command) }
-    requires in_range { IsNumberInRange order.now.call.command }
-    requires on_files { IsOnFiles order.now.call.command }
-    ensures value { IfOk result (IsUncertified order.now files.old view.now) }
+    requires count { length files.old ≡ length (roles_of asked.now.order.now.call.command) }
+    requires names { length asked.now.order.now.call.files ≡ length (roles_of asked.now.order.now.call.command) }
+    requires in_range { IsNumberInRange asked.now.order.now.call.command }
+    requires on_files { IsOnFiles asked.now.order.now.call.command }
+    requires within { IfSome shown (IsWithinLimits large) }
+    ensures value { IfOk result (IsUncertified shown asked.now.order.now files.old asked.now.view.now) }
     ensures of_command { IfOk result (λ told. IsOfCommand told.status) }
-    ensures halt { IfErr result (HaltsAt (IsFirstRefusal large order.now.call.command files.old)
+    ensures halt { IfErr result (HaltsAt (IsFirstRefusalFor large shown asked.now.order.now.call.command files.old)
         (IsFirstRefused large (corners_of files.old) 1)) }
 {
-    let names = order.call.files.items();
-    match (order.call.aspect, order.call.command) {
+    match (asked.order.call.aspect, asked.order.call.command) {
         (
             Aspect::Clocks,
             Command::OfDesign {
                 job: Job::Check,
                 source,
             },
-        ) => Ok(stated_clocks(alloc, order, Stated::Schedule, source, view, files)?),
+        ) => Ok(clocks_answer(alloc, asked, Stated::Schedule, source, shown, files)?),
         (
             Aspect::Clocks,
             Command::OfDesign {
                 job: Job::Verify,
                 source,
             },
-        ) => Ok(stated_clocks(alloc, order, Stated::Certificate, source, view, files)?),
+        ) => Ok(clocks_answer(alloc, asked, Stated::Certificate, source, shown, files)?),
         (
             Aspect::Table,
             Command::OfDesign {
                 job: Job::Optimise,
                 source,
             },
-        ) => Ok(table_answer(alloc, source, files)?),
+        ) => Ok(table_answer(alloc, source, shown, files)?),
         (Aspect::Picture, Command::OfDesign { job, source }) => match motif_of(job) {
-            Some(motif) => Ok(picture_answer(alloc, motif, source, names, view, files)?),
-            None => lone_answer(alloc, order, view, files),
+            Some(motif) => Ok(picture_answer(alloc, asked, motif, source, shown, files)?),
+            None => lone_answer(alloc, asked, shown, files),
         },
-        _ => lone_answer(alloc, order, view, files),
+        _ => lone_answer(alloc, asked, shown, files),
     }
 }
 
 /// The answer to a call for people.
-fn people_answer(alloc: Global, order: &Order, files: &mut [Bytes]) -> Result<Told, Halt>
+fn people_answer(
+    alloc: Global,
+    order: &Order,
+    shown: Option<Flat>,
+    files: &mut [Bytes],
+) -> Result<Told, Halt>
     requires count { length files.old ≡ length (roles_of order.now.call.command) }
     requires names { length order.now.call.files ≡ length (roles_of order.now.call.command) }
     requires in_range { IsNumberInRange order.now.call.command }
     requires on_files { IsOnFiles order.now.call.command }
-    ensures value { IfOk result (IsForPeople order.now files.old) }
-    ensures halt { IfErr result (HaltsAt (IsFirstRefusal large order.now.call.command files.old)
+    requires within { IfSome shown (IsWithinLimits large) }
+    ensures value { IfOk result (IsForPeople shown order.now files.old) }
+    ensures halt { IfErr result (HaltsAt (IsFirstRefusalFor large shown order.now.call.command files.old)
         (IsFirstRefused large (corners_of files.old) 1)) }
 {
     let view = view_of(alloc, order, files)?;
     match certified_source(&order.call) {
-        Some(source) => Ok(certified_answer(alloc, source, &view, files)?),
-        None => uncertified_answer(alloc, order, &view, files),
+        Some(source) => Ok(certified_answer(alloc, source, shown, &view, files)?),
+        None => {
+            let asked = Asked { order, view: &view };
+            uncertified_answer(alloc, &asked, shown, files)
+        }
     }
 }
 
@@ -451,26 +428,33 @@ fn has_one_form(aspect: Aspect) -> bool
 }
 
 /// Whether mintc's own answer is asked for.
-fn is_own(order: &Order) -> bool
+pub(crate) fn is_own(order: &Order) -> bool
     ensures { result ≡ is_own order.now }
 {
     matches!(order.manner.format, Format::Plain) && !has_one_form(order.call.aspect)
 }
 
-/// The answer to a call in its form, of the texts that are given.
-pub(crate) fn answer_of(alloc: Global, order: &Order, files: &mut [Bytes]) -> Result<Told, Halt>
+/// The answer to a call in its form, of the texts that are given; for people it is one of the design at hand, where
+/// there is one.
+pub(crate) fn answer_of(
+    alloc: Global,
+    order: &Order,
+    shown: Option<Flat>,
+    files: &mut [Bytes],
+) -> Result<Told, Halt>
     requires count { length files.old ≡ length (roles_of order.now.call.command) }
     requires names { length order.now.call.files ≡ length (roles_of order.now.call.command) }
     requires in_range { IsNumberInRange order.now.call.command }
     requires on_files { IsOnFiles order.now.call.command }
-    ensures value { IfOk result (IsAnswered order.now files.old) }
+    requires within { IfSome shown (IsWithinLimits large) }
+    ensures value { IfOk result (IsAnswered shown order.now files.old) }
     ensures of_command { IfOk result (λ told. IsOfCommand told.status) }
-    ensures halt { IfErr result (HaltsAt (IsRefused order.now files.old)
+    ensures halt { IfErr result (HaltsAt (IsRefused shown order.now files.old)
         (IsFirstRefused large (corners_of files.old) 1)) }
 {
     if is_own(order) {
         Ok(plain_answer(alloc, order, files)?)
     } else {
-        people_answer(alloc, order, files)
+        people_answer(alloc, order, shown, files)
     }
 }

@@ -1,6 +1,8 @@
 //! From words to the reply.
-ghost use Rattle.std.specs.Prelude.{◌≡◌, ◌≢◌, ◌<◌, ◌≤◌, ◌+◌, ◌⊎◌, ℕ, List, true, length, map, string_bytes};
+ghost use Rattle.std.specs.Prelude.{◌≡◌, ◌≢◌, ◌<◌, ◌≤◌, ◌+◌, ◌⊎◌, ℕ, List, true, IfSome, length, map, string_bytes};
+ghost use Rattle.mintc_text.specs.Limits.{large};
 ghost use Rattle.mintc_text.specs.Outside.{Rose};
+ghost use Rattle.mintc_timing.specs.Limits.{IsWithinLimits};
 ghost use Rattle.mintc_command.specs.Answers.{MakesAtMost};
 ghost use Rattle.mintc_command_answers.specs.Commands.{IsNumberInRange, roles_of};
 ghost use Rattle.mintc_command_answers.specs.declared.status.Status.TheVariants.{ReadFault, WriteFault};
@@ -8,13 +10,13 @@ ghost use Rattle.mintcx_answers.specs.Answers.{IsOnFiles};
 ghost use Rattle.mintcx_translation.specs.Calls.{cells_place, takes_four};
 ghost use Rattle.mintcx_run.specs.Libraries.{restored};
 ghost use Rattle.mintcx_run.specs.Replies.{IsApartReply, IsCallReply, IsDesignReply, IsGivenReply, IsHaltReply};
-ghost use Rattle.mintcx_run.specs.Replies.{IsMadeReply, IsMessage, IsTextsReply};
+ghost use Rattle.mintcx_run.specs.Replies.{IsMadeReply, IsMessage, IsOwnReply, IsTextsReply};
 ghost use Rattle.mintcx_run.specs.Replies.{IsOutOfMemory, IsPlaced, IsReply, IsTakenReply, IsUnfitReply, beside_of};
 ghost use Rattle.mintcx_run.specs.Replies.{command_as, has_schedule, place_of, read_as, takes_schedules, told_place};
 ghost use Rattle.mintcx_run.specs.Warned.{AreAllWarned, AreClampsTold};
 
-use crate::answers::{Told, answer_of};
-use crate::apart::{in_place, made_of, make_apart, of_table};
+use crate::answers::{Told, answer_of, is_own};
+use crate::apart::{in_place, make_apart, of_table};
 use crate::libraries::{describe, restored};
 use crate::orders::{Order, order_for};
 use crate::projects::given_of;
@@ -25,8 +27,9 @@ use crate::taking::take_files;
 use crate::warned::{all_warnings, clamps_for};
 use mintc_command_answers::{Command, Job, Status};
 use mintc_text::{Bytes, Name, Shelf};
+use mintc_timing::Flat;
 use mintcx_answers::Halt;
-use mintcx_apart::{Apart, Halt as EdgeHalt, Obstacle};
+use mintcx_apart::{Apart, Halt as EdgeHalt, Obstacle, table_apart};
 use mintcx_clock_cells::Unfit;
 use mintcx_requests::{Given, Manner};
 use mintcx_translation::{Aspect, Call, cells_place};
@@ -134,14 +137,15 @@ fn read_as(order: Order, files: &[Bytes]) -> Order
             ..order.call
         },
         manner: order.manner,
-        made: order.made,
     }
 }
 
-/// The reply to an order of the texts that are given, with these warnings.
+/// The reply to an order of the texts that are given, with these warnings; for people it is one of the design at hand,
+/// where there is one.
 fn texts_reply<S: Shelf>(
     alloc: Global,
     order: Order,
+    shown: Option<Flat>,
     mut files: Vec<Bytes>,
     warnings: Bytes,
     shelf: &mut S,
@@ -150,14 +154,15 @@ fn texts_reply<S: Shelf>(
     requires files { length files.items ≡ length (roles_of order.call.command) }
     requires in_range { IsNumberInRange order.call.command }
     requires on_files { IsOnFiles order.call.command }
-    ensures reply { IsOutOfMemory result ⊎ IsTextsReply (S.files shelf.old) order files.items warnings result }
+    requires within { IfSome shown (IsWithinLimits large) }
+    ensures reply { IsOutOfMemory result ⊎ IsTextsReply (S.files shelf.old) shown order files.items warnings result }
     ensures no_fault { result.status ≢ WriteFault }
     ensures no_read { result.status ≢ ReadFault }
     ensures same { S.files shelf.new ≡ S.files shelf.old }
     ensures later { S.faults shelf.old ≤ S.faults shelf.new }
     ensures reads { MakesAtMost 2 (S.calls shelf.old) (S.calls shelf.new) }
 {
-    match answer_of(alloc, &order, files.as_mut_slice()) {
+    match answer_of(alloc, &order, shown, files.as_mut_slice()) {
         Ok(told) => placed(order, told, warnings),
         Err(Halt::Refused(refusal)) => refused(alloc, &order, &refusal, shelf),
         Err(Halt::Corner { corner, own }) => refused_corner(alloc, &order, corner, &own, shelf),
@@ -165,12 +170,13 @@ fn texts_reply<S: Shelf>(
     }
 }
 
-/// The reply where there is a design with edges apart, of what is taken of the files of an order.
+/// mintc's own answer to an order of a design with edges apart, asked of the design's table, or that no table can say
+/// it.
 #[tactic(auto, using(crate::proofs::ApartLaws::four_roles))]
-fn made_reply<S: Shelf>(
+fn own_reply<S: Shelf>(
     alloc: Global,
     order: Order,
-    told: Apart,
+    flat: Flat,
     files: Vec<Bytes>,
     warnings: Bytes,
     shelf: &mut S,
@@ -180,22 +186,50 @@ fn made_reply<S: Shelf>(
     requires in_range { IsNumberInRange order.call.command }
     requires on_files { IsOnFiles order.call.command }
     requires four { takes_four order.call.command ≡ true }
-    ensures reply { IsOutOfMemory result ⊎ IsMadeReply (S.files shelf.old) order files.items warnings told result }
+    ensures reply { IsOutOfMemory result ⊎ IsOwnReply (S.files shelf.old) order files.items warnings flat result }
     ensures no_fault { result.status ≢ WriteFault }
     ensures no_read { result.status ≢ ReadFault }
     ensures same { S.files shelf.new ≡ S.files shelf.old }
     ensures later { S.faults shelf.old ≤ S.faults shelf.new }
     ensures reads { MakesAtMost 2 (S.calls shelf.old) (S.calls shelf.new) }
 {
-    match told {
-        Apart::Said(table) => match made_of(alloc, &order, files.as_slice()) {
-            Ok(made) => {
-                let texts = in_place(table, files);
-                texts_reply(alloc, of_table(order, made), texts, warnings, shelf)
-            }
-            Err(_) => Reply::out_of_memory(alloc),
-        },
-        Apart::Unsaid(obstacle) => unsaid_reply(alloc, &obstacle),
+    match table_apart(alloc, flat) {
+        Ok(Apart::Said(table)) => {
+            let texts = in_place(table, files);
+            texts_reply(alloc, of_table(order), None, texts, warnings, shelf)
+        }
+        Ok(Apart::Unsaid(obstacle)) => unsaid_reply(alloc, &obstacle),
+        Err(_) => Reply::out_of_memory(alloc),
+    }
+}
+
+/// The reply where there is a design with edges apart, of what is taken of the files of an order: mintc's own answer is
+/// that of the design's table, and what is told to people is told of the design itself.
+fn made_reply<S: Shelf>(
+    alloc: Global,
+    order: Order,
+    flat: Flat,
+    files: Vec<Bytes>,
+    warnings: Bytes,
+    shelf: &mut S,
+) -> Reply
+    requires count { length order.call.files ≡ length (roles_of order.call.command) }
+    requires files { length files.items ≡ length (roles_of order.call.command) }
+    requires in_range { IsNumberInRange order.call.command }
+    requires on_files { IsOnFiles order.call.command }
+    requires four { takes_four order.call.command ≡ true }
+    requires within { IsWithinLimits large flat }
+    ensures reply { IsOutOfMemory result ⊎ IsMadeReply (S.files shelf.old) order files.items warnings flat result }
+    ensures no_fault { result.status ≢ WriteFault }
+    ensures no_read { result.status ≢ ReadFault }
+    ensures same { S.files shelf.new ≡ S.files shelf.old }
+    ensures later { S.faults shelf.old ≤ S.faults shelf.new }
+    ensures reads { MakesAtMost 2 (S.calls shelf.old) (S.calls shelf.new) }
+{
+    if is_own(&order) {
+        own_reply(alloc, order, flat, files, warnings, shelf)
+    } else {
+        texts_reply(alloc, order, Some(flat), files, warnings, shelf)
     }
 }
 
@@ -257,7 +291,7 @@ fn apart_reply<S: Shelf>(
     ensures reads { MakesAtMost 2 (S.calls shelf.old) (S.calls shelf.new) }
 {
     match make_apart(alloc, &order, files.as_slice()) {
-        Ok(told) => made_reply(alloc, order, told, files, warnings, shelf),
+        Ok(flat) => made_reply(alloc, order, flat, files, warnings, shelf),
         Err(why) => halt_reply(alloc, &order, &why, shelf),
     }
 }
@@ -293,7 +327,7 @@ fn design_reply<S: Shelf>(
         let taken = restored(files, at, library);
         apart_reply(alloc, order, taken, warnings, shelf)
     } else {
-        texts_reply(alloc, order, files, warnings, shelf)
+        texts_reply(alloc, order, None, files, warnings, shelf)
     }
 }
 

@@ -12,32 +12,19 @@ ghost use Rattle.mintcx_run.specs.Replies.{NamesNoRefusal, NamesNone};
 
 use crate::projects::settings_of;
 use crate::reply::{Place, Reply};
-use crate::unsaid::ClockText;
 use mintc_command_answers::Status;
 use mintc_text::{Name, Shelf};
 use mintcx_explanations::{explanation_of, topic_number, warning_explanation};
 use mintcx_project::Settings;
 use mintcx_requests::{Design, Given, Manner, Request, Task, request_of};
-use mintcx_sdc::Titles;
 use mintcx_translation::{Call, NoCall, call_of};
 use std::alloc::Global;
 
-/// What a table is made of: what its answer is about, how the clocks of a schedule beside it are called, where such are
-/// asked for, and the clock description of its files.
-#[derive(Drop)]
-pub(crate) struct Made {
-    pub(crate) subject: Name,
-    pub(crate) titles: Option<Titles>,
-    pub(crate) clock: ClockText,
-}
-
-/// A call of mintc, and how its answer is given; where `made` is there, its first file is a table that is made of
-/// others, and stands in none.
+/// A call of mintc, and how its answer is given.
 #[derive(Drop)]
 pub(crate) struct Order {
     pub(crate) call: Call,
     pub(crate) manner: Manner,
-    pub(crate) made: Option<Made>,
 }
 
 /// What is asked, or what is wrong with it.
@@ -68,11 +55,7 @@ fn design_order(
     ensures reply { IfErr result (IsGapReply (Request.OfDesign task design clamp manner)) }
 {
     match call_of(alloc, manner.format, clamp, task, design) {
-        Ok(call) => Ok(Order {
-            call,
-            manner,
-            made: None,
-        }),
+        Ok(call) => Ok(Order { call, manner }),
         Err(NoCall::Missing(gap)) => Err(Reply::message(alloc, Status::Usage, &gap)),
         Err(NoCall::OutOfMemory) => Err(Reply::out_of_memory(alloc)),
     }

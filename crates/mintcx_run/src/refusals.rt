@@ -1,18 +1,17 @@
 //! Refusals, as they are told to people.
-ghost use Rattle.std.specs.Prelude.{◌≡◌, ◌≢◌, ◌<◌, ◌≤◌, ◌+◌, ◌⊎◌, [], length, slice_index_or, IfOk};
-ghost use Rattle.mintc_text.specs.Outside.{IsFront, Rose};
+ghost use Rattle.std.specs.Prelude.{◌≡◌, ◌≢◌, ◌≤◌, length, IfOk};
+ghost use Rattle.mintc_text.specs.Outside.{Rose};
 ghost use Rattle.mintc_command.specs.Answers.{MakesAtMost};
 ghost use Rattle.mintc_command_answers.specs.Commands.{IsNumberInRange, roles_of};
 ghost use Rattle.mintcx_run.specs.Replies.{IsCornerReply, IsCornerText, IsMessage, IsRefusalReply, IsRefusalText};
 ghost use Rattle.mintcx_run.specs.Replies.{IsRefusedFile, IsSaidReply, IsTextOfCorner, IsTextOfRefusal};
-ghost use Rattle.mintcx_run.specs.Replies.{IsStanding, is_object, refusal_place};
+ghost use Rattle.mintcx_run.specs.Replies.{is_object, refusal_place};
 
 use crate::objects::{corner_object, refusal_object};
 use crate::orders::Order;
 use crate::reading::{read_file, shown};
 use crate::reply::{Place, Reply};
 use mintc_command_answers::Status;
-use mintc_text::limits::MOST_BYTES;
 use mintc_text::{Bytes, OutOfMemory, Refusal, Shelf};
 use mintcx_manners::{Detail, Format};
 use mintcx_refusals::{
@@ -20,26 +19,8 @@ use mintcx_refusals::{
 };
 use std::alloc::Global;
 
-/// The first bytes of a file of an order, by its number; none of a table that is made of files, or where that file
-/// can't be read any more.
-fn file_again<S: Shelf>(alloc: Global, order: &Order, at: usize, shelf: &mut S) -> Bytes
-    requires { at < length order.now.call.files }
-    ensures file { (result ≡ []) ⊎ (IsStanding order.now at
-        × IsFront (S.files shelf.old) (slice_index_or order.now.call.files at []) (MOST_BYTES + 1) result) }
-    ensures same { S.files shelf.new ≡ S.files shelf.old }
-    ensures later { S.faults shelf.old ≤ S.faults shelf.new }
-    ensures reads { MakesAtMost 1 (S.calls shelf.old) (S.calls shelf.new) }
-{
-    if at > 0 || order.made.is_none() {
-        if let Ok(file) = read_file(alloc, shelf, &order.call.files.items()[at]) {
-            return file;
-        }
-    }
-    Bytes::new(Vec::new(alloc))
-}
-
-/// The first bytes of the file that a refusal speaks of, read once more; none where it speaks of none or of a table
-/// that is made, or where that file can't be read any more.
+/// The first bytes of the file that a refusal speaks of, read once more; none where it speaks of none, or where that
+/// file can't be read any more.
 fn refused_file<S: Shelf>(alloc: Global, order: &Order, refusal: &Refusal, shelf: &mut S) -> Bytes
     requires in_range { IsNumberInRange order.now.call.command }
     requires names { length order.now.call.files ≡ length (roles_of order.now.call.command) }
@@ -48,10 +29,12 @@ fn refused_file<S: Shelf>(alloc: Global, order: &Order, refusal: &Refusal, shelf
     ensures later { S.faults shelf.old ≤ S.faults shelf.new }
     ensures reads { MakesAtMost 1 (S.calls shelf.old) (S.calls shelf.new) }
 {
-    match file_of(order.call.command.roles(), refusal) {
-        Some(at) => file_again(alloc, order, at, shelf),
-        None => Bytes::new(Vec::new(alloc)),
+    if let Some(at) = file_of(order.call.command.roles(), refusal) {
+        if let Ok(file) = read_file(alloc, shelf, &order.call.files.items()[at]) {
+            return file;
+        }
     }
+    Bytes::new(Vec::new(alloc))
 }
 
 /// Whether the answer is an object, and so a refusal.
@@ -62,7 +45,7 @@ fn is_object(order: &Order) -> bool
 }
 
 /// The first bytes of the other file that the message of a refusal takes names from, read once more; none where it
-/// takes none, where it is a table that is made, or where that file can't be read any more.
+/// takes none, or where that file can't be read any more.
 fn beside_file<S: Shelf>(alloc: Global, order: &Order, refusal: &Refusal, shelf: &mut S) -> Bytes
     requires in_range { IsNumberInRange order.now.call.command }
     requires names { length order.now.call.files ≡ length (roles_of order.now.call.command) }
@@ -70,10 +53,12 @@ fn beside_file<S: Shelf>(alloc: Global, order: &Order, refusal: &Refusal, shelf:
     ensures later { S.faults shelf.old ≤ S.faults shelf.new }
     ensures reads { MakesAtMost 1 (S.calls shelf.old) (S.calls shelf.new) }
 {
-    match beside_of(order.call.command.roles(), refusal) {
-        Some(at) => file_again(alloc, order, at, shelf),
-        None => Bytes::new(Vec::new(alloc)),
+    if let Some(at) = beside_of(order.call.command.roles(), refusal) {
+        if let Ok(file) = read_file(alloc, shelf, &order.call.files.items()[at]) {
+            return file;
+        }
     }
+    Bytes::new(Vec::new(alloc))
 }
 
 /// What is said of a refusal for people, with the bytes of the file that it speaks of, and of the one beside it.

@@ -1,5 +1,5 @@
 //! What is said of clocks that SDC can't say.
-ghost use Rattle.std.specs.Prelude.{◌≡◌, ◌≤◌, IfOk, IfSome, length};
+ghost use Rattle.std.specs.Prelude.{◌≡◌, ◌≤◌, IfSome, length};
 
 use mintc_clock::{PhaseDef, read_clock};
 use mintc_command_answers::Source;
@@ -17,8 +17,8 @@ use std::alloc::Global;
 /// The clock description of a design, by its name and its bytes.
 #[derive(Drop)]
 pub(crate) struct ClockText {
-    pub(crate) name: Bytes,
-    pub(crate) text: Bytes,
+    name: Bytes,
+    text: Bytes,
 }
 
 /// Two phases on the levels of one port, with the number of the low one, from 1 on, and how long it starts after the
@@ -34,20 +34,8 @@ struct Levels<'a> {
 }
 
 /// Bytes of their own.
-fn owned(alloc: Global, bytes: &[u8]) -> Result<Bytes, OutOfMemory>
-    ensures { IfOk result (λ own. own ≡ bytes.now) }
-{
+fn owned(alloc: Global, bytes: &[u8]) -> Result<Bytes, OutOfMemory> {
     Ok(Bytes::new(Vec::from_slice(alloc, bytes)?))
-}
-
-/// The clock description of a name and of these bytes.
-pub(crate) fn clock_text(alloc: Global, name: &Name, text: &[u8]) -> Result<ClockText, OutOfMemory>
-    ensures { IfOk result (λ clock. clock.text ≡ text.now) }
-{
-    Ok(ClockText {
-        name: owned(alloc, name.bytes())?,
-        text: owned(alloc, text)?,
-    })
 }
 
 /// The clock description among the files of a design; none of a table.
@@ -59,7 +47,10 @@ pub(crate) fn clock_among(
 ) -> Result<Option<ClockText>, OutOfMemory> {
     match (source, names, files) {
         (Source::Files | Source::Liberty, [_, _, _, name, ..], [_, _, _, text, ..]) => {
-            Ok(Some(clock_text(alloc, name, text.items())?))
+            Ok(Some(ClockText {
+                name: owned(alloc, name.bytes())?,
+                text: owned(alloc, text.items())?,
+            }))
         }
         _ => Ok(None),
     }
@@ -239,7 +230,7 @@ fn named_text(
 /// What is said of clocks that SDC can't say.
 pub(crate) fn unsaid_text(
     alloc: Global,
-    clock: Option<&ClockText>,
+    clock: &Option<ClockText>,
     obstacle: &Obstacle,
     view: &View,
 ) -> Result<Bytes, OutOfMemory> {

@@ -1,7 +1,15 @@
-use Rattle.mintcx_answers.proofs.ClockLaws.{clocks_stopped}
+use Rattle.std.proofs.Common.{◌∙◌, ap}
+use Rattle.mintc_command_answers.specs.Commands.{roles_of}
+use Rattle.mintcx_answers.specs.Clocks.{job_of}
+use Rattle.mintcx_answers.proofs.ShownLaws.{design_length, job_stopped}
 use Rattle.mintcx_answers.proofs.clocks.clocks_text.Goals as goal
+
+pub returns-in-Some-clause-stop : goal.returns-in-Some-clause-stop
+returns-in-Some-clause-stop c =
+    let asked = c.args.asked.now in
+    design_length c.args.limits.now c.args.shown (job_of asked.stated) asked.source c.args.files.now c.roles.result.now c.in-Some.refusal (c.roles.ensures ∙ ap roles_of c.command_of-command.ensures) c.in-Some.ensures
 
 pub returns-clause-stop : goal.returns-clause-stop
 returns-clause-stop c =
     let asked = c.args.asked.now in
-    clocks_stopped c.args.limits.now c.design_clocks.result _ asked.source c.args.files.now c.in_default.ensures c.design_clocks.ensures.stop
+    job_stopped c.args.limits.now c.args.shown c.design_clocks.result (job_of asked.stated) asked.source c.args.files.now c.in_default.ensures c.design_clocks.ensures.stop

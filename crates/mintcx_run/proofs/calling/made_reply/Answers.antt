@@ -1,6 +1,11 @@
-use Rattle.mintcx_run.proofs.ReplyLaws.{made_said}
+use Rattle.std.proofs.Common.{◌∙◌, sym}
+use Rattle.mintcx_run.proofs.ReplyLaws.{made_own, made_shown}
 use Rattle.mintcx_run.proofs.calling.made_reply.Goals as goal
 
-pub returns-in-Said-in-Ok-clause-reply : goal.returns-in-Said-in-Ok-clause-reply
-returns-in-Said-in-Ok-clause-reply g c =
-    rw c.in-Said.is (made_said _ c.args.order c.of_table.result c.in-Said-in-Ok.made c.in-Said.table c.args.files.items c.in_place-texts.result.items c.args.warnings c.texts_reply.result (rw c.as_slice.ensures.value at c.in-Said-in-Ok.ensures) c.of_table.ensures.value c.in_place-texts.ensures.value c.texts_reply.ensures.reply)
+pub returns-then-is_own-clause-reply : goal.returns-then-is_own-clause-reply
+returns-then-is_own-clause-reply g c =
+    made_own _ c.args.order c.args.files.items c.args.warnings c.args.flat c.own_reply.result (sym c.is_own.ensures ∙ c.if-is_own.true) c.own_reply.ensures.reply
+
+pub returns-else-is_own-clause-reply : goal.returns-else-is_own-clause-reply
+returns-else-is_own-clause-reply g c =
+    made_shown _ c.args.order c.args.files.items c.args.warnings c.args.flat c.texts_reply.result (sym c.is_own.ensures ∙ c.if-is_own.false) c.texts_reply.ensures.reply

@@ -1,4 +1,4 @@
-use Rattle.std.proofs.Common.{◌≡◌, ◌++◌, ℤ, List, ap, ◌∙◌, subst}
+use Rattle.std.proofs.Common.{◌++◌, ℤ, List, ap, ◌∙◌, subst}
 use Rattle.std.proofs.lemmas.Result.{on_ok_weaker}
 use Rattle.mintc_timing.specs.Design.{Design}
 use Rattle.mintc_certificate.specs.declared.certificate.Certificate.{Certificate}

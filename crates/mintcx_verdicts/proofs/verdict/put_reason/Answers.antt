@@ -9,6 +9,6 @@ returns-in-Never c =
     let examined = c.args.examined.now in
     let t = examined.system.now in
     let vs = examined.violations.now in
-    let same : Never c.items-in-Never.result.now ≡ examined.certificate.now = ap Never c.items-in-Never.ensures ∙ sym c.in-Never.is in
+    let same : Never c.items.result.now ≡ examined.certificate.now = ap Never c.items.ensures ∙ sym c.in-Never.is in
     subst (λ (x : Certificate). OnOk c.put_never_reason.result (IsWritten (IsReason t x (chain_unit t x c.args.view.now) vs (test_of c.args.number)) c.args.lines.now c.put_never_reason.new.lines))
     same (c.put_never_reason.ensures vs)
