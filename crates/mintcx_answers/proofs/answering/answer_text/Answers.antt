@@ -28,4 +28,4 @@ returns-in_err-design_text-in-OfDesign-clause-stop c =
     let texts = c.args.files.now in
     let p = err_from_is_err_and c.from_residual-in_err-design_text-in-OfDesign.result c.from_residual-in_err-design_text-in-OfDesign.ensures.1 in
     rw (p.1, p.2, c.in-OfDesign.is) (job_halted most c.args.shown (IsFirstRefused most (corners_of texts) 1) c.in-OfDesign.job c.in-OfDesign.source texts c.in_err-design_text-in-OfDesign.field-0.0 c.in_default.ensures
-        c.in_err-design_text-in-OfDesign.ensures.stop)
+    c.in_err-design_text-in-OfDesign.ensures.stop)
