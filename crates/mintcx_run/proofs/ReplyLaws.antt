@@ -134,6 +134,12 @@ pub taken_given : (files : Option Files) (order : Order) (fronts taken given : L
 taken_given files order fronts taken given reply are (inl wanting) = inl wanting
 taken_given files order fronts taken given reply are (inr (warnings, warned, h)) = inr (inr (given, warnings, are, warned, h))
 
+-- the same where the texts that the warnings go with are what is taken
+pub given_back : (files : Option Files) (order : Order) (fronts texts taken given : List Text) (reply : Reply) → texts ≡ taken → IsOutOfMemory reply ⊎ IsWarnedReply files order fronts texts given reply →
+    AreGiven order taken given → IsTakenReply files order fronts taken reply
+given_back files order fronts texts taken given reply same told are =
+    taken_given files order fronts taken given reply are (subst (λ (fs : List Text). IsOutOfMemory reply ⊎ IsWarnedReply files order fronts fs given reply) same told)
+
 pub taken_unfit : (files : Option Files) (order : Order) (fronts taken : List Text) (why : Unfit) (reply : Reply) → IsUndescribed order taken why → IsUnfitReply files order why reply →
     IsTakenReply files order fronts taken reply
 taken_unfit files order fronts taken why reply un h = inr (inl (why, un, h))

@@ -1,11 +1,10 @@
-use Rattle.std.proofs.Common.{◌∙◌, ◌⊎◌, Some, List, length, arith, ap, inr, subst, sym}
+use Rattle.std.proofs.Common.{◌∙◌, Some, List, length, arith, ap, inr, subst, sym}
 use Rattle.std.specs.Vec.{with_items}
 use Rattle.std.proofs.lemmas.List.{with_items_is}
 use Rattle.mintcx_requests.specs.Requests.{Text}
 use Rattle.mintcx_run.specs.Libraries.{AreDescribed, restored}
-use Rattle.mintcx_run.specs.Replies.{IsOutOfMemory}
 use Rattle.mintcx_translation.specs.Calls.{cells_place}
-use Rattle.mintcx_run.proofs.ReplyLaws.{IsWarnedReply, put_back, taken_given, taken_unfit}
+use Rattle.mintcx_run.proofs.ReplyLaws.{given_back, put_back, taken_unfit}
 use Rattle.mintcx_run.proofs.calling.described_reply.Goals as goal
 
 pub returns-in-Ok-clause-reply : goal.returns-in-Ok-clause-reply
@@ -20,8 +19,7 @@ returns-in-Ok-clause-reply g c fronts clamps =
     let put = subst (λ (fs : List Text). AreDescribed at order.call.gates taken fs) (sym is) described in
     let library = rw (c.as_mut_slice.ensures.value, c.cells_place-at.ensures) at c.in-Ok.ensures.library in
     let back = ap (λ (fs : List Text). restored fs at (Some c.in-Ok.library)) (is ∙ described.2) ∙ put_back taken at described.0 c.in-Ok.library library in
-    let told = subst (λ (fs : List Text). IsOutOfMemory c.design_reply.result ⊎ IsWarnedReply _ order fronts fs given.items c.design_reply.result) back (c.design_reply.ensures.reply fronts clamps) in
-    taken_given _ order fronts taken given.items c.design_reply.result (inr (c.requires.described, put)) told
+    given_back _ order fronts _ taken given.items c.design_reply.result back (c.design_reply.ensures.reply fronts clamps) (inr (c.requires.described, put))
 
 pub returns-in-Err-clause-reply : goal.returns-in-Err-clause-reply
 returns-in-Err-clause-reply g c fronts clamps =
