@@ -63,7 +63,7 @@ const TOO_MANY: &str =
  = note: `refused 17 scopes 1000001`; `mintcx explain 17` says more
 ";
 
-const TWICE: &str =
+const TOO_MANY_ELEMENTS: &str =
     "error[17]: the design has 40,002 latches, flops and listed ports, and at most 20,000 are taken
  = help: judge the design in parts: name a smaller `top` in clock.toml; with edges apart `--edges merged` takes half
  = note: `refused 17 elements 40002`; `mintcx explain 17` says more
@@ -300,11 +300,11 @@ fn no_place_is_shown_where_none_is_known(rt: HostRuntime) -> Result<(), OutOfMem
         count: 1_000_001,
     };
     assert!(rt; is_told(alloc, &many, "", TOO_MANY)?);
-    let twice = Refusal::Limit {
+    let elements = Refusal::Limit {
         kind: Kind::Elements,
         count: 40_002,
     };
-    assert!(rt; is_told(alloc, &twice, "", TWICE)?);
+    assert!(rt; is_told(alloc, &elements, "", TOO_MANY_ELEMENTS)?);
     Ok(())
 }
 
