@@ -4,8 +4,8 @@ ghost use Rattle.mintc_text.specs.Refusals.{refusal_line};
 
 use crate::answer::Answer;
 use crate::status::Status;
-use mintc_report::refusal_text;
 use mintc_text::{Lines, OutOfMemory, Refusal};
+use mintc_text_refusals::refusal_text;
 use std::alloc::Global;
 
 /// The answer of a refusal's line.

@@ -8,9 +8,9 @@ ghost use Rattle.mintc_certificate.specs.Valid.{IsMember, links_of_members};
 ghost use Rattle.mintc_report.specs.Reports.{chain_line, chain_lines, member_lines};
 
 use crate::members::{put_amounts, put_member};
-use crate::writing::put_number;
 use mintc_certificate::{ChainSums, Member, sums_of};
 use mintc_text::{Lines, OutOfMemory};
+use mintc_text_refusals::put_number;
 use mintc_timing::System;
 
 /// The sums over the links of the members.

@@ -5,9 +5,10 @@ ghost use Rattle.mintc_timing.specs.Limits.{IsDenominator, IsInRange};
 ghost use Rattle.mintc_report.specs.Answers.{broken_words, reach_line, reach_lines, ring_of};
 ghost use Rattle.mintc_report.specs.Answers.{AppendsLines, AppendsViolations, AreViolationLines, IsFailText, NamePairs};
 
-use crate::writing::{lowest, put_fraction, put_number, put_word};
+use crate::writing::{lowest, put_fraction};
 use mintc_fraction::Fraction;
 use mintc_text::{Lines, OutOfMemory};
+use mintc_text_refusals::{put_number, put_word};
 use mintc_timing::{Broken, Pair, Schedule, System, Violation};
 use std::alloc::Global;
 

@@ -8,9 +8,10 @@ ghost use Rattle.mintc_certificate.specs.Valid.{IsMember, link_of as link_of_mem
 ghost use Rattle.mintc_report.specs.Reports.{amount_words, element_name, inner_name, later_arcs, member_lines};
 ghost use Rattle.mintc_report.specs.Reports.{member_names, phase_name, through_line, IsInner, IsThrough};
 
-use crate::writing::{put_integer, put_number, put_word};
+use crate::writing::put_integer;
 use mintc_certificate::{Member, link_of};
 use mintc_text::{Lines, OutOfMemory};
+use mintc_text_refusals::{put_number, put_word};
 use mintc_timing::{Link, System};
 
 /// The name of a phase, which is counted from 1.

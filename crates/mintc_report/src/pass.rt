@@ -6,10 +6,11 @@ ghost use Rattle.mintc_timing.specs.Design.{phase_count};
 ghost use Rattle.mintc_timing.specs.Limits.{IsDenominator, IsInRange};
 ghost use Rattle.mintc_report.specs.Answers.{element_line, AppendsLines, AreElementLines, IsPassText};
 
-use crate::writing::{lowest, put_fraction, put_word};
+use crate::writing::{lowest, put_fraction};
 use mintc_constraints::Room;
 use mintc_fraction::Fraction;
 use mintc_text::{Lines, OutOfMemory};
+use mintc_text_refusals::put_word;
 use mintc_timing::{Element, Schedule, System};
 use std::alloc::Global;
 

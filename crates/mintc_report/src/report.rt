@@ -10,10 +10,11 @@ ghost use Rattle.mintc_report.specs.Reports.{chain_lines, cycle_line, late_line,
 ghost use Rattle.mintc_report.specs.Reports.{AreLateLines, IsLeastReport, IsReportText};
 
 use crate::chain::put_chain;
-use crate::writing::{lowest, put_fraction, put_word};
+use crate::writing::{lowest, put_fraction};
 use mintc_certificate::{Certificate, Member};
 use mintc_fraction::Fraction;
 use mintc_text::{Lines, Name, OutOfMemory};
+use mintc_text_refusals::put_word;
 use mintc_timing::{Element, Schedule, System};
 use std::alloc::Global;
 

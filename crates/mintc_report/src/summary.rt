@@ -6,9 +6,10 @@ ghost use Rattle.mintc_certificate.specs.Ranges.{IsCertificateInRange};
 ghost use Rattle.mintc_report.specs.Summaries.{count_line, count_lines, IsLeastSummary, IsSummaryText};
 
 use crate::report::put_cycle;
-use crate::writing::{lowest, put_number};
+use crate::writing::lowest;
 use mintc_certificate::Certificate;
 use mintc_text::{Lines, OutOfMemory};
+use mintc_text_refusals::put_number;
 use mintc_timing::{Schedule, System};
 use std::alloc::Global;
 

@@ -2,9 +2,9 @@
 ghost use Rattle.std.specs.Prelude.{◌≡◌, ◌++◌, IfOk, OnOk};
 ghost use Rattle.mintc_report.specs.Reports.{verdict_text_of};
 
-use crate::writing::put_number;
 use mintc_checker::Verdict;
 use mintc_text::{Lines, OutOfMemory};
+use mintc_text_refusals::put_number;
 use std::alloc::Global;
 
 /// Writes the line of an invalid certificate, with the test that it fails.

@@ -1,27 +1,11 @@
-//! Words and numbers that follow a space.
-ghost use Rattle.std.specs.Prelude.{◌≡◌, ◌++◌, ◌∷◌, OnOk, decimal};
+//! Numbers below zero and fractions that follow a space.
+ghost use Rattle.std.specs.Prelude.{◌≡◌, ◌++◌, ◌∷◌, OnOk};
 ghost use Rattle.mintc_text.specs.Lines.{numeral_of, fraction_word};
 ghost use Rattle.mintc_timing.specs.Limits.{IsDenominator};
 ghost use Rattle.mintc_report.specs.Answers.{IsLowestOf};
 
 use mintc_fraction::Fraction;
 use mintc_text::{Lines, OutOfMemory};
-
-/// Writes a word after a space.
-pub(crate) fn put_word(lines: &mut Lines, word: &[u8]) -> Result<(), OutOfMemory>
-    ensures { OnOk result (lines.new ≡ lines.old ++ 32 ∷ word.now) }
-{
-    lines.put(b" ")?;
-    lines.put(word)
-}
-
-/// Writes a number after a space.
-pub(crate) fn put_number(lines: &mut Lines, number: u64) -> Result<(), OutOfMemory>
-    ensures { OnOk result (lines.new ≡ lines.old ++ 32 ∷ decimal number) }
-{
-    lines.put(b" ")?;
-    lines.number(number as i128)
-}
 
 /// Writes a number that may be below zero after a space.
 pub(crate) fn put_integer(lines: &mut Lines, number: i64) -> Result<(), OutOfMemory>

@@ -1,7 +1,8 @@
 //! mintc_report: the line of each refusal and of verdicts; with memory they are there.
 use mintc_checker::Verdict;
-use mintc_report::{refusal_text, verdict_text};
+use mintc_report::verdict_text;
 use mintc_text::{Kind, Numbers, Refusal, Role};
+use mintc_text_refusals::refusal_text;
 use std::alloc::Global;
 use std::process::Abort;
 use std::test::Fail;

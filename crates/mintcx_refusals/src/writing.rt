@@ -5,8 +5,8 @@ ghost use Rattle.mintcx_refusals.specs.Messages.{arrow_text, excerpt_text, file_
 ghost use Rattle.mintcx_refusals.specs.Messages.{corner_note, marks_text, note, note_text, own_line};
 ghost use Rattle.mintcx_refusals.specs.Messages.{padded, place_text, short_file, short_place, spot_text};
 
-use mintc_report::refusal_text;
 use mintc_text::{Bytes, Lines, OutOfMemory, Refusal};
+use mintc_text_refusals::refusal_text;
 use mintcx_places::{Excerpt, Spot};
 use std::alloc::Global;
 

@@ -2,7 +2,7 @@ use Rattle.std.proofs.Common.{ℕ, List, [], ◌∷◌, ◌++◌, decimal, ap, �
 use Rattle.std.specs.Prelude.{codes}
 use Rattle.mintc_text.specs.Refusals.{refusal_number, refusal_fields}
 use Rattle.mintc_text.proofs.SharedLinesLaws.{line-spaced}
-use Rattle.mintc_report.proofs.refusals.refusal_text.Goals as goal
+use Rattle.mintc_text_refusals.proofs.lines.refusal_text.Goals as goal
 
 pub returns : goal.returns
 returns c =

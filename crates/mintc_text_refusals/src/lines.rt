@@ -3,7 +3,7 @@ ghost use Rattle.std.specs.Prelude.{◌≡◌, ◌++◌, ◌∷◌, [], IfOk, On
 ghost use Rattle.mintc_text.specs.Lines.{spaced};
 ghost use Rattle.mintc_text.specs.Refusals.{role_word, kind_word, refusal_number, refusal_fields, refusal_line};
 
-use crate::writing::{put_number, put_word};
+use crate::words::{put_number, put_word};
 use mintc_text::{Kind, Lines, OutOfMemory, Refusal, Role};
 use std::alloc::Global;
 
