@@ -150,6 +150,7 @@ fn entitled(alloc: Global, subject: &[u8], view: &View) -> Result<View, OutOfMem
         subject: Name::new(alloc, subject)?,
         unit: view.unit,
         limit: view.limit,
+        apart: view.apart,
     })
 }
 

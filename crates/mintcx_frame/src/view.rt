@@ -8,13 +8,14 @@ use mintc_text::Name;
 use mintcx_amounts::Unit;
 use mintcx_manners::{Limit, TimeUnit};
 
-/// How an answer is shown: what it is about, as `ring` or `ring under own.schedule`, the unit of its times, and how
-/// many rows of a list.
+/// How an answer is shown: what it is about, as `ring` or `ring under own.schedule`, the unit of its times, how many
+/// rows of a list, and whether its design has each element twice, once for each edge of data.
 #[derive(Drop)]
 pub struct View {
     pub subject: Name,
     pub unit: TimeUnit,
     pub limit: Limit,
+    pub apart: bool,
 }
 
 impl View {

@@ -30,6 +30,7 @@ pub(crate) fn cornered(alloc: Global, count: usize, view: &View) -> Result<View,
         subject: word_cell(alloc, &subject.into_bytes())?,
         unit: view.unit,
         limit: view.limit,
+        apart: view.apart,
     })
 }
 

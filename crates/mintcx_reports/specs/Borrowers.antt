@@ -1,5 +1,5 @@
 -- The latches that borrow.
-use Rattle.std.specs.Prelude.{◌≡◌, ◌==◌, ◌<◌, ℕ, zero, suc, ℤ, pos, neg_ℤ, Bool, false, not, ◌&&◌, int_lt}
+use Rattle.std.specs.Prelude.{◌≡◌, ◌==◌, ◌<◌, ℕ, zero, suc, ℤ, pos, neg_ℤ, Bool, true, false, not, ◌&&◌, int_lt}
 use Rattle.std.specs.Prelude.{List, [], ◌∷◌, ◌++◌, codes, decimal, filter, length, map, slice_index_or, take}
 use Rattle.std.specs.List.{list_any, range_with_len}
 use Rattle.std.specs.List.Sorted.{IsPermutation, IsSorted}
@@ -17,6 +17,7 @@ use Rattle.mintcx_columns.specs.Tables.{Grid, table_text}
 use Rattle.mintcx_frame.specs.Names.{element_name, kind_on_phase}
 use Rattle.mintcx_frame.specs.Phases.{left, right}
 use Rattle.mintcx_frame.specs.Rows.{more_text, shown_rows}
+use Rattle.mintcx_frame.specs.declared.view.View.{View}
 use Rattle.mintcx_manners.specs.declared.manners.Limit.{Limit}
 
 -- whether some pair leads to an element
@@ -58,11 +59,23 @@ pub record AreBorrowers (t : Timing) (d : List ℤ) (places : List (ℤ × ℕ))
   pub sorted : IsSorted place_cmp places
 
 -- the line that says how many latches of how many borrow
-abbrev pub count_text : ℕ → ℕ → List ℕ
-count_text zero all = codes "no latch borrows" ++ 10 ∷ []
-count_text (suc zero) all = codes "1 latch of " ++ decimal all ++ codes " borrows:" ++ 10 ∷ 10 ∷ []
-count_text (suc (suc n)) all =
+abbrev pub latch_count_text : ℕ → ℕ → List ℕ
+latch_count_text zero all = codes "no latch borrows" ++ 10 ∷ []
+latch_count_text (suc zero) all = codes "1 latch of " ++ decimal all ++ codes " borrows:" ++ 10 ∷ 10 ∷ []
+latch_count_text (suc (suc n)) all =
     decimal (suc (suc n)) ++ codes " latches of " ++ decimal all ++ codes " borrow:" ++ 10 ∷ 10 ∷ []
+
+-- with edges apart, where each latch has two: the line that says at how many edges of how many a latch borrows
+abbrev pub edge_count_text : ℕ → ℕ → List ℕ
+edge_count_text zero all = codes "no latch borrows" ++ 10 ∷ []
+edge_count_text (suc zero) all = codes "a latch borrows at 1 edge of " ++ decimal all ++ codes ":" ++ 10 ∷ 10 ∷ []
+edge_count_text (suc (suc n)) all = codes "latches borrow at " ++ decimal (suc (suc n)) ++ codes " edges of "
+    ++ decimal all ++ codes ":" ++ 10 ∷ 10 ∷ []
+
+-- the one or the other
+abbrev pub count_text : Bool → ℕ → ℕ → List ℕ
+count_text true count all = edge_count_text count all
+count_text false count all = latch_count_text count all
 
 -- the columns of their table
 abbrev pub borrow_columns : List Column
@@ -92,9 +105,9 @@ listed_text design s d unit limit (place ∷ places) =
     ++ more_text limit (length (place ∷ places))
 
 -- the latches that borrow, after the line that counts them and all that may
-abbrev pub borrowers_text : Design → Schedule → List ℤ → Unit → Limit → ℕ → List (ℤ × ℕ) → List ℕ
-borrowers_text design s d unit limit all places =
-    count_text (length places) all ++ listed_text design s d unit limit places
+abbrev pub borrowers_text : Design → Schedule → List ℤ → Unit → View → ℕ → List (ℤ × ℕ) → List ℕ
+borrowers_text design s d unit view all places =
+    count_text view.apart (length places) all ++ listed_text design s d unit view.limit places
 
 -- There is a flag for each of so many elements, which says whether a test holds of it.
 pub record AreFlags (test : ℕ → Bool) (many : ℕ) (flags : List Bool) : Type 0 where

@@ -31,7 +31,7 @@ abbrev pub report_text : Design → Schedule → List ℤ → List (List ℕ) �
 report_text design s d cells stages all places view = head_text (codes "least") (cycle_of s) view ++ 10 ∷ []
     ++ phases_text design s (unit_of s view) ++ 10 ∷ []
     ++ deciding_text design s d cells (unit_of s view) stages ++ 10 ∷ []
-    ++ borrowers_text design s d (unit_of s view) view.limit all places ++ 10 ∷ [] ++ foot_text (unit_of s view) []
+    ++ borrowers_text design s d (unit_of s view) view all places ++ 10 ∷ [] ++ foot_text (unit_of s view) []
 
 -- The report of the least cycle of a schedule, which a chain decides.
 abbrev pub IsReportOf : Timing → Schedule → List ℤ → List Member → List (List ℕ) → View → List ℕ → Type 0

@@ -3,14 +3,15 @@ ghost use Rattle.std.specs.Prelude.{◌≡◌, ◌<◌, ◌++◌, ◌∷◌, [],
 ghost use Rattle.mintc_timing.specs.Design.{element_count};
 ghost use Rattle.mintcx_chain.specs.Rows.{IsClocked};
 ghost use Rattle.mintcx_reports.specs.Borrowers.{AreBorrowers, AreFlags, borrow_cells, borrow_columns, borrow_grid};
-ghost use Rattle.mintcx_reports.specs.Borrowers.{borrow_head, borrowers_text, count_text, feeds, is_fed, latches_of};
-ghost use Rattle.mintcx_reports.specs.Borrowers.{listed_text, may_borrow, places_of};
+ghost use Rattle.mintcx_reports.specs.Borrowers.{borrow_head, borrowers_text, count_text, edge_count_text, feeds};
+ghost use Rattle.mintcx_reports.specs.Borrowers.{is_fed, latch_count_text, latches_of, listed_text, may_borrow};
+ghost use Rattle.mintcx_reports.specs.Borrowers.{places_of};
 
 use crate::told::Told;
 use mintc_text::{Lines, Names, OutOfMemory};
 use mintc_timing::{Schedule, System};
 use mintcx_columns::{Column, Table};
-use mintcx_frame::{kind_on_phase, put_more, put_number, shown_rows, time_cell, word_cell};
+use mintcx_frame::{View, kind_on_phase, put_more, put_number, shown_rows, time_cell, word_cell};
 use mintcx_manners::Limit;
 use std::alloc::Global;
 
@@ -153,8 +154,8 @@ pub(crate) fn borrowing_of(
 }
 
 /// Writes the line that says how many latches of how many borrow.
-fn put_count(lines: &mut Lines, count: usize, all: usize) -> Result<(), OutOfMemory>
-    ensures { OnOk result (lines.new ≡ lines.old ++ count_text count all) }
+fn put_latch_count(lines: &mut Lines, count: usize, all: usize) -> Result<(), OutOfMemory>
+    ensures { OnOk result (lines.new ≡ lines.old ++ latch_count_text count all) }
 {
     if count == 0 {
         return lines.put(b"no latch borrows\n");
@@ -168,6 +169,36 @@ fn put_count(lines: &mut Lines, count: usize, all: usize) -> Result<(), OutOfMem
     lines.put(b" latches of ")?;
     put_number(lines, all as u64)?;
     lines.put(b" borrow:\n\n")
+}
+
+/// Writes the line that says at how many edges of how many a latch borrows.
+fn put_edge_count(lines: &mut Lines, count: usize, all: usize) -> Result<(), OutOfMemory>
+    ensures { OnOk result (lines.new ≡ lines.old ++ edge_count_text count all) }
+{
+    if count == 0 {
+        return lines.put(b"no latch borrows\n");
+    }
+    if count == 1 {
+        lines.put(b"a latch borrows at 1 edge of ")?;
+        put_number(lines, all as u64)?;
+        return lines.put(b":\n\n");
+    }
+    lines.put(b"latches borrow at ")?;
+    put_number(lines, count as u64)?;
+    lines.put(b" edges of ")?;
+    put_number(lines, all as u64)?;
+    lines.put(b":\n\n")
+}
+
+/// Writes the line that counts latches, or their edges where these are kept apart.
+fn put_count(lines: &mut Lines, apart: bool, count: usize, all: usize) -> Result<(), OutOfMemory>
+    ensures { OnOk result (lines.new ≡ lines.old ++ count_text apart count all) }
+{
+    if apart {
+        put_edge_count(lines, count, all)
+    } else {
+        put_latch_count(lines, count, all)
+    }
 }
 
 /// The columns of the table of the latches that borrow.
@@ -257,13 +288,20 @@ pub(crate) fn put_borrowers(
     told: &Told,
     departures: &[i64],
     borrowing: &Borrowing,
-    limit: Limit,
+    view: &View,
 ) -> Result<(), OutOfMemory>
     requires clocked { IsClocked told.now.flat.now told.now.schedule.now departures.now }
     requires places { All (λ (place : ℤ × ℕ). place.1 < element_count told.now.flat.now) borrowing.now.places.items }
     ensures { OnOk result (lines.new ≡ lines.old ++ borrowers_text told.now.flat.now told.now.schedule.now
-        departures.now told.now.unit limit borrowing.now.latches borrowing.now.places.items) }
+        departures.now told.now.unit view.now borrowing.now.latches borrowing.now.places.items) }
 {
-    put_count(lines, borrowing.places.len(), borrowing.latches)?;
-    put_listed(lines, alloc, told, departures, &borrowing.places, limit)
+    put_count(lines, view.apart, borrowing.places.len(), borrowing.latches)?;
+    put_listed(
+        lines,
+        alloc,
+        told,
+        departures,
+        &borrowing.places,
+        view.limit,
+    )
 }

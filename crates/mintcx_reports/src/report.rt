@@ -105,7 +105,7 @@ fn put_report(
     lines.put(b"\n")?;
     put_deciding(lines, alloc, &told, departures, decided.stages)?;
     lines.put(b"\n")?;
-    put_borrowers(lines, alloc, &told, departures, borrowing, view.limit)?;
+    put_borrowers(lines, alloc, &told, departures, borrowing, view)?;
     lines.put(b"\n")?;
     put_foot(lines, unit, b"")
 }

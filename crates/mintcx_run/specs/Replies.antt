@@ -1,6 +1,6 @@
 -- What a run replies to its words, over the files of a shelf, and what it leaves.
 use Rattle.std.specs.Prelude.{◌≡◌, ◌<◌, ◌≤◌, ◌+◌, ◌⊎◌, ℕ, List, [], length, slice_set, slice_index_or}
-use Rattle.std.specs.Prelude.{◌-◌, Option, Some, None, nat_eq}
+use Rattle.std.specs.Prelude.{◌-◌, Option, Some, None, is_some, nat_eq}
 use Rattle.std.specs.Prelude.{Bool, true, false, ◌&&◌, not, Result, Ok, Err, Contains, IsUtf8, codes, if◌then◌else◌}
 use Rattle.std.specs.List.{starts_with}
 use Rattle.clap.specs.Words.{App}
@@ -342,11 +342,12 @@ abbrev pub IsAnswer : Option Source → Option Design → Order → List Text �
 IsAnswer (Some from) shown order fronts view told = IsCertified shown from fronts view told
 IsAnswer None shown order fronts view told = IsUncertified shown order fronts view told
 
--- the answer to a call for people, in the unit and with the rows that are asked
+-- the answer to a call for people, in the unit and with the rows that are asked, and edge by edge of a design at hand
 pub record IsForPeople (shown : Option Design) (order : Order) (fronts : List Text) (told : Told) : Type 0 where
   pub view : View
   pub unit : view.unit ≡ order.manner.unit
   pub limit : view.limit ≡ order.manner.limit
+  pub apart : view.apart ≡ is_some shown
   pub answer : IsAnswer (certified_source order.call) shown order fronts view told
   pub of_command : IsOfCommand told.status
 

@@ -62,18 +62,20 @@ fn plain_answer(alloc: Global, order: &Order, files: &mut [Bytes]) -> Result<Tol
     })
 }
 
-/// How the answer to a call is shown.
-fn view_of(alloc: Global, order: &Order, files: &[Bytes]) -> Result<View, OutOfMemory>
+/// How the answer to a call is shown, which speaks of a design with edges apart or of that of the files.
+fn view_of(alloc: Global, order: &Order, apart: bool, files: &[Bytes]) -> Result<View, OutOfMemory>
     requires count { length files.now ≡ length (roles_of order.now.call.command) }
     requires names { length order.now.call.files ≡ length (roles_of order.now.call.command) }
     ensures unit { IfOk result (λ view. view.unit ≡ order.now.manner.unit) }
     ensures limit { IfOk result (λ view. view.limit ≡ order.now.manner.limit) }
+    ensures apart { IfOk result (λ view. view.apart ≡ apart) }
 {
     let subject = subject_of(alloc, order.call.command, order.call.files.items(), files)?;
     Ok(View {
         subject,
         unit: order.manner.unit,
         limit: order.manner.limit,
+        apart,
     })
 }
 
@@ -407,7 +409,7 @@ fn people_answer(
     ensures halt { IfErr result (HaltsAt (IsFirstRefusalFor large shown order.now.call.command files.old)
         (IsFirstRefused large (corners_of files.old) 1)) }
 {
-    let view = view_of(alloc, order, files)?;
+    let view = view_of(alloc, order, shown.is_some(), files)?;
     match certified_source(&order.call) {
         Some(source) => Ok(certified_answer(alloc, source, shown, &view, files)?),
         None => {

@@ -40,6 +40,7 @@ fn view(alloc: Global, subject: &str) -> Result<View, OutOfMemory> {
         subject: Name::new(alloc, subject.as_bytes())?,
         unit: TimeUnit::Auto,
         limit: Limit::Rows(3),
+        apart: false,
     })
 }
 

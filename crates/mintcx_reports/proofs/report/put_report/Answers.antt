@@ -25,7 +25,7 @@ returns c =
     let head = head_text (codes "least") (cycle_of s) view in
     let phases = phases_text flat s (unit_of s view) in
     let deciding = deciding_text flat s d decided.cells.now (unit_of s view) decided.stages.now in
-    let borrowers = borrowers_text flat s d (unit_of s view) view.limit all places in
+    let borrowers = borrowers_text flat s d (unit_of s view) view all places in
     let begun = of_six old c.put_head.new.lines c.put.new.self c.put_phases.new.lines c.put-2.new.self c.put_deciding.new.lines c.put-3.new.self
     head (10 ∷ []) phases (10 ∷ []) deciding (10 ∷ [])
     (c.in_ok-put_head.ensures ∙ ap (λ (x : Ratio). old ++ head_text (codes "least") x view) c.cycle_of.ensures.value)
@@ -38,7 +38,7 @@ returns c =
     (λ e. of_four old c.put-3.new.self c.put_borrowers.new.lines c.put-4.new.self c.put_foot.new.lines
     (head ++ 10 ∷ [] ++ phases ++ 10 ∷ [] ++ deciding ++ 10 ∷ []) borrowers (10 ∷ []) (foot_text (unit_of s view) [])
     begun
-    (c.in_ok-put_borrowers.ensures ∙ ap (λ (x : Unit). c.put-3.new.self ++ borrowers_text flat s d x view.limit all places) unit_is)
+    (c.in_ok-put_borrowers.ensures ∙ ap (λ (x : Unit). c.put-3.new.self ++ borrowers_text flat s d x view all places) unit_is)
     c.in_ok-put-4.ensures.ok
     (e ∙ ap (λ (x : Unit). c.put-4.new.self ++ foot_text x []) unit_is))
     c.put_foot.ensures
