@@ -135,7 +135,8 @@ fn walk<L: Ledger>(list: &LinkList, at: &Fraction, room: &mut Room, steps: &mut 
     walk_from(list, at, 0, room, steps);
 }
 
-/// How many steps a search over the links of a system takes, and one walk at the least cycle time after it.
+/// How many steps a search over the links of a system takes, and after it two walks at the least cycle time that take
+/// as many as the one from node 0.
 fn searched_and_walked<L: Ledger>(alloc: Global, system: &System, blank: Blank) -> Option<u64>
     requires name { blank.name ≡ L.name }
     requires parts { blank.parts ≡ L.parts }
@@ -150,15 +151,21 @@ fn searched_and_walked<L: Ledger>(alloc: Global, system: &System, blank: Blank) 
     if room.chain().len() > list.nodes() as usize {
         return None;
     }
+    let searched = steps.taken();
     walk(&list, &cycle, &mut room, &mut steps);
-    Some(steps.taken())
+    let walked = steps.taken();
+    Some(walked.saturating_add(walked.saturating_sub(searched)))
 }
 
-/// Whether the slacks of a system take the steps of a search and of one walk, and none for a second way round.
+/// Whether the slacks of a system take no more than the steps of a search and of two walks: it is walked from one node
+/// of the chain alone, and not once more from each element.
 fn is_walked_once(alloc: Global, system: &System) -> bool {
     match found::<Brand>(alloc, system, Blank::new(1)) {
         Some((_, taken)) => {
-            searched_and_walked::<Brand>(alloc, system, Blank::new(1)) == Some(taken)
+            match searched_and_walked::<Brand>(alloc, system, Blank::new(1)) {
+                Some(most) => taken <= most,
+                None => false,
+            }
         }
         None => false,
     }
