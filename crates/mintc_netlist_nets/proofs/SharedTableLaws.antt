@@ -3,7 +3,7 @@ use Rattle.std.proofs.Common.{◌≡◌, ℕ, zero, suc, ◌+◌, ◌<◌, ◌�
 use Rattle.std.specs.List.{list_any, flat_map, position_or_len}
 use Rattle.std.specs.Int.{abs_diff}
 use Rattle.std.proofs.lemmas.Bool.Decides.{nat_tests}
-use Rattle.std.proofs.lemmas.List.{append-nil, drop_more, take_more, drop_all, take_all}
+use Rattle.std.proofs.lemmas.List.{append-nil, drop_more, take_more, drop_all, take_all, map-append, get_or-map}
 use Rattle.std.proofs.lemmas.List.Concat.{flat_map-append}
 use Rattle.std.proofs.lemmas.List.Folds.{list_any-append}
 use Rattle.std.proofs.lemmas.Slice.Eq.{bytes_eq-Decides}
@@ -51,6 +51,19 @@ firsts_all m names k count firsts whole past left =
 
 pub count_all : (m : Module) (names : List (List ℕ)) (k count : ℕ) → length names ≤ k → count ≡ bits_before m (take k names) → count ≡ bits_before m names
 count_all m names k count past so_far = so_far ∙ ap (bits_before m) (take_all k names past)
+
+-- the ranges of the nets so far, and of all
+pub spans_step : (m : Module) (names : List (List ℕ)) (k : ℕ) (name : List ℕ) (span : Option Span) (spans : List (Option Span)) → k < length names → name ≡ get_or names k [] →
+    spans ≡ map (range_of m) (take k names) → span ≡ range_of m name → spans ++ span ∷ [] ≡ map (range_of m) (take (k + 1) names)
+spans_step m names k name span spans inside at so_far is =
+    let longer : take (k + 1) names ≡ take k names ++ name ∷ [] = take_more names k [] inside ∙ ap (λ (n : List ℕ). take k names ++ n ∷ []) (sym at) in
+    ap (λ (s : List (Option Span)). s ++ span ∷ []) so_far
+    ∙ ap (λ (s : Option Span). map (range_of m) (take k names) ++ s ∷ []) is
+    ∙ sym (map-append (range_of m) (take k names) (name ∷ []))
+    ∙ sym (ap (map (range_of m)) longer)
+
+pub spans_all : (m : Module) (names : List (List ℕ)) (k : ℕ) (spans : List (Option Span)) → length names ≤ k → spans ≡ map (range_of m) (take k names) → spans ≡ map (range_of m) names
+spans_all m names k spans past so_far = so_far ∙ ap (map (range_of m)) (take_all k names past)
 
 -- the place of the first bit of a net, which has room for its bits
 pub firsts_count : (m : Module) (first : ℕ) (names : List (List ℕ)) → length (firsts_from m first names) ≡ length names
@@ -115,6 +128,12 @@ pub found_name : (name : List ℕ) (ns : List (List ℕ)) (p : ℕ) → position
 found_name name ns p found =
     let here = found_place (bytes_eq name) ns p found in
     subst (λ (k : ℕ). get_or ns k [] ≡ name) here.0 (name_at name ns (subst (λ (k : ℕ). k < length ns) (sym here.0) here.1))
+
+-- the range of a net that is found
+pub span_found : (m : Module) (name : List ℕ) (p : ℕ) (d : Option Span) → position (bytes_eq name) (names_of m) ≡ Some p → get_or (map (range_of m) (names_of m)) p d ≡ range_of m name
+span_found m name p d found =
+    let here = found_place (bytes_eq name) (names_of m) p found in
+    get_or-map (range_of m) (names_of m) p [] d here.1 ∙ ap (range_of m) (found_name name (names_of m) p found)
 
 -- the bits of one net
 own : (name : List ℕ) → bytes_eq name name ≡ true

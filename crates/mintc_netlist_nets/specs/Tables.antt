@@ -1,5 +1,5 @@
 -- The nets of a module as a table, and the place of a bit in it.
-use Rattle.std.specs.Prelude.{ℕ, ◌+◌, cond, Option, None, Some, List, [], ◌∷◌, length, fold}
+use Rattle.std.specs.Prelude.{ℕ, ◌+◌, cond, Option, None, Some, List, [], ◌∷◌, length, map, fold}
 use Rattle.std.specs.List.{flat_map}
 use Rattle.std.specs.Int.{abs_diff}
 use Rattle.std.specs.Option.{option_map_or}
@@ -22,11 +22,12 @@ offset_of (Some s) (Some at) = cond (is_inside s at) (Some (abs_diff at s.lsb)) 
 offset_of None (Some at) = None
 offset_of (Some s) None = None
 
--- A module's nets: their names, each with the place of its first bit, what is declared as ports and as nets, and
--- how many bits there are.
+-- A module's nets: their names, each with the place of its first bit and its range, what is declared as ports and as
+-- nets, and how many bits there are.
 pub record NetTable : Type 0 where
   pub names : List (List ℕ)
   pub firsts : List ℕ
+  pub spans : List (Option Span)
   pub ports : List (List ℕ × Declaration)
   pub wires : List (List ℕ × Declaration)
   pub count : ℕ
@@ -49,6 +50,7 @@ abbrev pub table_of : Module → NetTable
 table_of m = record {
   names = names_of m;
   firsts = firsts_from m 0 (names_of m);
+  spans = map (range_of m) (names_of m);
   ports = declared_ports m;
   wires = declared_nets m;
   count = length (nets_of m);

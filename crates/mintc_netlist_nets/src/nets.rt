@@ -13,12 +13,13 @@ use mintc_text_names::NameSet;
 use std::alloc::Global;
 use std::marker::Model;
 
-/// The nets of a module by name: the place of each net's first bit among the bits of all nets of the module, what
-/// names are declared as, and how many bits there are. Places are counted from 0.
+/// The nets of a module by name: the place of each net's first bit among the bits of all nets of the module, the range
+/// of each net, what names are declared as, and how many bits there are. Places are counted from 0.
 #[derive(Drop)]
 pub struct Nets {
     names: NameSet,
     firsts: Vec<u64>,
+    spans: Vec<Option<Span>>,
     ports: Declarations,
     wires: Declarations,
     count: u64,
@@ -32,6 +33,7 @@ impl Model for Nets {
     ghost view = { λ n. record {
       names = n.names;
       firsts = n.firsts.items;
+      spans = n.spans.items;
       ports = n.ports;
       wires = n.wires;
       count = n.count;
@@ -68,18 +70,22 @@ impl Nets {
         let ports = Declarations::of_ports(alloc, items)?;
         let wires = Declarations::of_nets(alloc, items)?;
         let mut firsts = Vec::new(alloc);
+        let mut spans = Vec::new(alloc);
         let mut count: u64 = 0;
         for place in 0..names.len() {
-            let width = bits(range(module_nets, &ports, &wires, names.name(place)));
+            let span = range(module_nets, &ports, &wires, names.name(place));
+            let width = bits(span);
             let Some(next) = count.checked_add(width) else {
                 return Err(OutOfMemory);
             };
             firsts.push(count)?;
+            spans.push(span)?;
             count = next;
         }
         Ok(Nets {
             names,
             firsts,
+            spans,
             ports,
             wires,
             count,
@@ -108,12 +114,24 @@ impl Nets {
         self.count
     }
 
+    /// The range of a name that was looked up: where it is found. A name that is no net's may be declared all the same.
+    fn span_at(&self, module_nets: &Module, name: &[u8], found: Option<usize>) -> Option<Span>
+        requires table { self.now ≡ table_of module_nets.now }
+        requires found { found ≡ position (bytes_eq name.now) (names_of module_nets.now) }
+        ensures { result ≡ range_of module_nets.now name.now }
+    {
+        match found {
+            Some(place) => self.spans[place],
+            None => range(module_nets, &self.ports, &self.wires, name),
+        }
+    }
+
     /// The range of a name.
     pub fn range(&self, module_nets: &Module, name: &[u8]) -> Option<Span>
         requires { self.now ≡ table_of module_nets.now }
         ensures { result ≡ range_of module_nets.now name.now }
     {
-        range(module_nets, &self.ports, &self.wires, name)
+        self.span_at(module_nets, name, self.names.find(name))
     }
 
     /// Whether a name is declared as an output.
@@ -165,7 +183,7 @@ impl Nets {
             ++ map (part_place module_nets.now name.now) (indexes part)) }
     {
         let found = self.names.find(name);
-        let span = self.range(module_nets, name);
+        let span = self.span_at(module_nets, name, found);
         for number in 0..bits(Some(part)) {
             let index = index_at(part, number as u32);
             let place = self.net_place(module_nets, name, found, span, Some(index));
@@ -179,13 +197,9 @@ impl Nets {
         requires { self.now ≡ table_of module_nets.now }
         ensures { result ≡ place_of module_nets.now (bit_of name.now index) }
     {
-        self.net_place(
-            module_nets,
-            name,
-            self.names.find(name),
-            self.range(module_nets, name),
-            index,
-        )
+        let found = self.names.find(name);
+        let span = self.span_at(module_nets, name, found);
+        self.net_place(module_nets, name, found, span, index)
     }
 
     /// Takes in the places of the bits of a whole net from the rightmost.
@@ -200,9 +214,11 @@ impl Nets {
         ensures { OnOk result (places.new.items ≡ places.old.items
             ++ map (bit_place module_nets.now) (bits_of name.now (range_of module_nets.now name.now))) }
     {
-        match self.range(module_nets, name) {
-            Some(span) => self.push_part(alloc, module_nets, name, span, places),
-            None => push_place(places, self.place(module_nets, name, None)),
+        let found = self.names.find(name);
+        let span = self.span_at(module_nets, name, found);
+        match span {
+            Some(part) => self.push_part(alloc, module_nets, name, part, places),
+            None => push_place(places, self.net_place(module_nets, name, found, span, None)),
         }
     }
 }
