@@ -11,3 +11,4 @@ mod LoopLaws
 mod LevelLaws
 mod OnceLaws
 pub mod SharedOrderLaws
+mod StandingLaws

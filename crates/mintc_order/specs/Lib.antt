@@ -6,3 +6,4 @@ pub mod Gatherings
 pub mod Listings
 pub mod OutgoingArcs
 pub mod Searches
+pub mod Standing

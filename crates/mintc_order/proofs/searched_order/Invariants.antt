@@ -1,6 +1,6 @@
 use Rattle.std.proofs.Common.{◌≡◌, ◌≢◌, ◌<◌, ℕ, [], slice_index}
 use Rattle.mintc_order.specs.Searches.{IsSearching}
-use Rattle.mintc_order.proofs.order.Given as goal
+use Rattle.mintc_order.proofs.searched_order.Given as goal
 
 abbrev pub invariant-loop-root : goal.invariant-loop-root
 invariant-loop-root l = record {

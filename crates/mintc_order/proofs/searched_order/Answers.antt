@@ -1,7 +1,7 @@
 use Rattle.std.proofs.lemmas.Grind.{common_steps}
 use Rattle.std.proofs.Common.{arith}
 use Rattle.mintc_order.proofs.Ending.{ordered_at_end, whole_at_end}
-use Rattle.mintc_order.proofs.order.Goals as goal
+use Rattle.mintc_order.proofs.searched_order.Goals as goal
 
 pub order_from_postorder-requires-clause-ordered : goal.order_from_postorder-requires-clause-ordered
 order_from_postorder-requires-clause-ordered c = ordered_at_end c.loop-root.invariant.search c.deref.result.now c.deref.ensures.value
