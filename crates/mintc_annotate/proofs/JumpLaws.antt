@@ -84,6 +84,14 @@ doubled_are ds n count jumps are = record {
       ∙ ap (λ (j : Jump). spot_after j high) (sym (get_or-map (doubled_jump jumps) jumps b no_jump no_jump here));
 }
 
+-- ways that lead nowhere else when they are taken twice are those of as many steps as one likes
+pub stays_long : (ds : List Drive) (more n count : ℕ) (jumps : List Jump) → 1 ≤ n → map (doubled_jump jumps) jumps ≡ jumps → AreJumps ds n count jumps →
+    (m : ℕ) × (n + more ≤ m) × AreJumps ds m count jumps
+stays_long ds zero n count jumps some still are = (n, omega arith, are)
+stays_long ds (suc more) n count jumps some still are =
+    let rest = stays_long ds more (n + n) count jumps (omega (arith, some)) still (subst (λ (v : List Jump). AreJumps ds (n + n) count v) still (doubled_are ds n count jumps are)) in
+    (rest.0, omega (arith, some, rest.1), rest.2)
+
 -- where the ways of so many steps lead, a search that ends is at its end
 pub ended : (ds : List Drive) (steps : ℕ) (table : List (Option Drive)) (jumps : List Jump) (start end : Spot) → AreDrivers ds (length table) table → AreJumps ds steps (length table) jumps → length table ≤ steps →
     start.bit < length table → end ≡ spot_after (slice_index_or jumps start.bit no_jump) start.high → slice_index_or table end.bit None ≡ None → (n : ℕ) × EndsAt ds n start end

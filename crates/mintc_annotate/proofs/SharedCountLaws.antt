@@ -1,5 +1,5 @@
 -- Counts up to what is told pass the same limits as those that they stand for.
-use Rattle.std.proofs.Common.{◌≡◌, ◌<◌, ℕ, min, List, [], ◌∷◌, Bool, true, false, cond, find, nat_lt, Option, Some, refl, ap, ◌∙◌, arith}
+use Rattle.std.proofs.Common.{◌≡◌, ◌<◌, ℕ, min, List, [], ◌∷◌, Bool, true, false, cond, find, nat_lt, Some, refl, ap, ◌∙◌, arith}
 use Rattle.std.specs.Option.{option_map}
 use Rattle.std.proofs.lemmas.Bool.Decides.{nat_tests}
 use Rattle.mintc_text.specs.Limits.{AreLimits}

@@ -7,7 +7,7 @@ use Rattle.std.proofs.lemmas.Int.{ints}
 use Rattle.std.proofs.lemmas.List.{get_or_past}
 use Rattle.std.proofs.lemmas.List.Sums.{AllPass-from_list_all}
 use Rattle.mintc_cells.specs.declared.cell.Cell.{Cell}
-use Rattle.mintc_cells.specs.declared.cell.Cell.TheVariants.{Gate, Latch, Flop, Clock}
+use Rattle.mintc_cells.specs.declared.cell.Cell.TheVariants.{Gate, Latch, Flop}
 use Rattle.mintc_cells.specs.Rules.{is_cell, has_defaults, is_same}
 use Rattle.mintc_cells.specs.Entries.{AreKept, is_kept, cell_at, no_cell}
 use Rattle.mintc_cells.proofs.SharedPinsLaws.{kept_at}

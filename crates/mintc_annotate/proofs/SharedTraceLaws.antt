@@ -18,7 +18,7 @@ use Rattle.mintc_text.specs.declared.refusals.Stop.TheVariants as stop
 use Rattle.mintc_text.specs.declared.refusals.Refusal.TheVariants as refusal
 use Rattle.mintc_text.specs.declared.refusals.Role.TheVariants as role
 use Rattle.mintc_cells.specs.declared.cell.Cell.{Cell}
-use Rattle.mintc_cells.specs.declared.cell.Cell.TheVariants.{Latch, Flop, Clock}
+use Rattle.mintc_cells.specs.declared.cell.Cell.TheVariants.{Latch, Flop}
 use Rattle.mintc_clock.specs.declared.clock.Clock as clock_type
 use Rattle.mintc_clock.specs.declared.clock.PhaseDef.{PhaseDef}
 use Rattle.mintc_flatten_hierarchy.specs.declared.hierarchy.TopPort.{TopPort}

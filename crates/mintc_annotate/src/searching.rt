@@ -1,6 +1,7 @@
 //! The search back from a bit.
 ghost use Rattle.std.specs.Prelude.{◌≡◌, ◌<◌, ◌≤◌, ◌++◌, ◌∷◌, [], ℕ, List, length, slice_index_or, None, IfOk, OnOk};
 ghost use Rattle.std.specs.Prelude.{MatchOption, All, map};
+ghost use Rattle.std.specs.Bool.{OnTrue};
 ghost use Rattle.std.specs.List.{range_with_len};
 ghost use Rattle.mintc_text.specs.declared.limits.TheConstants.{MOST_INNER};
 ghost use Rattle.mintc_annotate.specs.Phases.{EndsAt};
@@ -101,20 +102,31 @@ fn then_jump(one: Jump, other: Jump) -> Jump
     }
 }
 
-/// Twice as many steps, in the place of what the list had.
-fn twice_as_far(jumps: &[Jump], found: &mut Vec<Jump>) -> Result<(), OutOfMemory>
-    requires { All (λ j. j.bit < length jumps.now) jumps.now }
-    ensures { OnOk result (found.new.items ≡ map (doubled_jump jumps.now) jumps.now) }
+/// Whether two ways back are one.
+fn is_same_way(one: Jump, other: Jump) -> bool
+    ensures { OnTrue result (one ≡ other) }
 {
+    one.bit == other.bit && one.turns == other.turns
+}
+
+/// Twice as many steps, in the place of what the list had. Whether these are the ways that were taken twice.
+fn twice_as_far(jumps: &[Jump], found: &mut Vec<Jump>) -> Result<bool, OutOfMemory>
+    requires { All (λ j. j.bit < length jumps.now) jumps.now }
+    ensures twice { OnOk result (found.new.items ≡ map (doubled_jump jumps.now) jumps.now) }
+    ensures ended { IfOk result (λ ended. OnTrue ended (map (doubled_jump jumps.now) jumps.now ≡ jumps.now)) }
+{
+    let mut ended = true;
     found.clear();
     for &jump in jumps {
-        found.push(then_jump(jump, jumps[jump.bit as usize]))?;
+        let twice = then_jump(jump, jumps[jump.bit as usize]);
+        ended = ended && is_same_way(twice, jump);
+        found.push(twice)?;
     }
-    Ok(())
+    Ok(ended)
 }
 
 /// At least as many steps back from each bit as there are bits: so each search that ends is at its end. In each round
-/// the steps of the round before are taken twice.
+/// the steps of the round before are taken twice, until none of them leads on.
 pub(crate) fn jumps(alloc: Global, table: &[Option<Drive>]) -> Result<Vec<Jump>, OutOfMemory>
     requires size { length table.now ≤ MOST_INNER }
     requires table { IsTable table.now }
@@ -125,7 +137,9 @@ pub(crate) fn jumps(alloc: Global, table: &[Option<Drive>]) -> Result<Vec<Jump>,
     let mut other = Vec::with_capacity(alloc, table.len())?;
     let mut steps = 1;
     while steps < table.len() {
-        twice_as_far(&found, &mut other)?;
+        if twice_as_far(&found, &mut other)? {
+            return Ok(found);
+        }
         let twice = other;
         other = found;
         found = twice;

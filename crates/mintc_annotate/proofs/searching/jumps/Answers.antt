@@ -1,7 +1,8 @@
-use Rattle.std.proofs.Common.{◌<◌, ◌+◌, ℕ, List, length, map, All, sym, ap, ◌∙◌, subst, arith}
+use Rattle.std.proofs.Common.{◌≡◌, ◌<◌, ◌+◌, Bool, ℕ, List, length, map, All, sym, ap, ◌∙◌, subst, arith}
+use Rattle.std.specs.Bool.{OnTrue}
 use Rattle.mintc_annotate.specs.declared.searching.Jump.{Jump}
 use Rattle.mintc_annotate.specs.Searches.{AreJumps, doubled_jump}
-use Rattle.mintc_annotate.proofs.JumpLaws.{first_are, doubled_are}
+use Rattle.mintc_annotate.proofs.JumpLaws.{first_are, doubled_are, stays_long}
 use Rattle.mintc_annotate.proofs.searching.jumps.Goals as goal
 
 pub loop-steps-init : goal.loop-steps-init
@@ -17,8 +18,15 @@ loop-steps-preserved c = (
   omega (arith, c.loop-steps.invariant.0),
   λ ds drivers.
       let are = doubled_are ds c.loop-steps.steps (length c.args.table.now) c.loop-steps.found.items (c.loop-steps.invariant.1 ds drivers) in
-      subst (λ (v : List Jump). AreJumps ds (c.loop-steps.steps + c.loop-steps.steps) (length c.args.table.now) v) (sym (c.in_ok-twice_as_far.ensures ∙ ap (λ (v : List Jump). map (doubled_jump v) v) c.deref.ensures.value)) are,
+      subst (λ (v : List Jump). AreJumps ds (c.loop-steps.steps + c.loop-steps.steps) (length c.args.table.now) v) (sym (c.in_ok-twice_as_far.ensures.twice ∙ ap (λ (v : List Jump). map (doubled_jump v) v) c.deref.ensures.value)) are,
 )
+
+pub returns-then-branch : goal.returns-then-branch
+returns-then-branch c = λ ds drivers.
+    let still : map (doubled_jump c.loop-steps.found.items) c.loop-steps.found.items ≡ c.loop-steps.found.items =
+    subst (λ (v : List Jump). map (doubled_jump v) v ≡ v) c.deref.ensures.value (subst (λ (b : Bool). OnTrue b (map (doubled_jump c.deref.result.now) c.deref.result.now ≡ c.deref.result.now)) c.if-branch.true c.in_ok-twice_as_far.ensures.ended) in
+    let long = stays_long ds (length c.args.table.now) c.loop-steps.steps (length c.args.table.now) c.loop-steps.found.items c.loop-steps.invariant.0 still (c.loop-steps.invariant.1 ds drivers) in
+    (long.0, omega (arith, long.1), long.2)
 
 pub returns : goal.returns
 returns c = λ ds drivers. (c.loop-steps.steps, omega (arith, c.loop-steps-test.false), c.loop-steps.invariant.1 ds drivers)
