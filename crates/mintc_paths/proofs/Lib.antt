@@ -22,3 +22,4 @@ mod Reversing
 mod ReversedSequence
 mod SystemLaws
 mod LongLaws
+mod Along

@@ -38,6 +38,12 @@ pub record AreRows (n : ℕ) (rows : Rows) : Type 0 where
   pub of_bits : LeadsBack n rows.of_bits.items rows.bits.items
   pub bits : LeadsBack n rows.bits.items rows.of_bits.items
 
+-- The bit has one of the rows that are given, and those that were given stay with their bits.
+pub record IsMet (before : List ℕ) (bit given : ℕ) (after : List ℕ) (given_after : ℕ) : Type 0 where
+  pub more : given ≤ given_after
+  pub own : row_of after bit < given_after
+  pub kept : (other : ℕ) → other < length before → row_of before other < given → row_of after other ≡ row_of before other
+
 -- the arc from row to row
 abbrev pub moved : List ℕ → TimingArc → TimingArc
 moved rows arc = record { from = row_of rows arc.from; to = row_of rows arc.to; min = arc.min; max = arc.max }

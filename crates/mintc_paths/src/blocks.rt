@@ -13,7 +13,7 @@ ghost use Rattle.mintc_paths.specs.Refusals.{IsPathRange};
 use crate::filled::Filled;
 use crate::found::Found;
 use crate::long::refuse_long;
-use crate::rows::{ArcSequence, Rows};
+use crate::rows::ArcSequence;
 use crate::sums::fill;
 use crate::worklist::Worklist;
 use mintc_bitset::Stamps;
@@ -29,8 +29,7 @@ pub fn sequence_of(alloc: Global, flat: &Flat, order: &Order) -> Result<ArcSeque
         (λ sequence. IsSequence (2 * length flat.now.elements + length flat.now.inner) flat.now.arcs order.now
         sequence) }
 {
-    let rows = Rows::along(alloc, flat, order)?;
-    ArcSequence::new(alloc, flat, order, rows)
+    ArcSequence::along(alloc, flat, order)
 }
 
 /// What all blocks have in common: a sequence, how many elements its design has, how many pairs are kept, and whether

@@ -1,10 +1,10 @@
 //! The rows of the bits' sums. They stand in the order in which the arcs come to their bits, so that arcs that are
 //! carried along one after another find their sums near each other.
-ghost use Rattle.std.specs.Prelude.{◌≡◌, ◌+◌, ◌-◌, ◌*◌, ◌<◌, ◌^◌, ℕ, length, All, IfOk};
+ghost use Rattle.std.specs.Prelude.{◌≡◌, ◌≢◌, ◌+◌, ◌-◌, ◌*◌, ◌<◌, ◌^◌, ℕ, length, All, IfOk};
 ghost use Rattle.mintc_timing.specs.Order.{IsOrder};
 ghost use Rattle.mintc_paths_sums.specs.Placed.{row_of};
 ghost use Rattle.mintc_paths.specs.Leaving.{AreLeaving};
-ghost use Rattle.mintc_paths.specs.Sums.{AreRows, IsSequence};
+ghost use Rattle.mintc_paths.specs.Sums.{AreRows, IsMet, IsSequence, moved};
 
 use mintc_adjacency::Adjacency;
 use mintc_timing::{Flat, Order, TimingArc};
@@ -39,7 +39,10 @@ impl Rows {
         requires bit { bit < length self.old.of_bits.items }
         requires row { row < length self.old.of_bits.items }
         requires rows { AreRows (length self.old.of_bits.items) self.old }
-        ensures { AreRows (length self.old.of_bits.items) self.new }
+        ensures rows { AreRows (length self.old.of_bits.items) self.new }
+        ensures row { row_of self.new.of_bits.items bit ≡ row }
+        ensures others { (other : ℕ) → other ≢ bit → other ≢ row_of self.old.bits.items row →
+            row_of self.new.of_bits.items other ≡ row_of self.old.of_bits.items other }
     {
         let other = self.bits[row as usize];
         let before = self.of_bits[bit as usize];
@@ -54,7 +57,8 @@ impl Rows {
         requires few { length self.old.of_bits.items < 2 ^ 32 }
         requires bit { bit < length self.old.of_bits.items }
         requires rows { AreRows (length self.old.of_bits.items) self.old }
-        ensures { AreRows (length self.old.of_bits.items) self.new }
+        ensures rows { AreRows (length self.old.of_bits.items) self.new }
+        ensures met { IsMet self.old.of_bits.items bit given self.new.of_bits.items result }
     {
         if self.of_bits[bit as usize] < given {
             return given;
@@ -63,22 +67,18 @@ impl Rows {
         given + 1
     }
 
-    /// The rows in the order in which the arcs come to the bits.
-    #[tactic(auto, using(mintc_timing::proofs::SharedOrdered::inside))]
-    pub fn along(alloc: Global, flat: &Flat, order: &Order) -> Result<Rows, AllocError>
-        requires { IsOrder flat.now.arcs order.now }
-        ensures { IfOk result (λ rows. AreRows (2 * length flat.now.elements + length flat.now.inner) rows) }
+    /// The arc from row to row.
+    fn arc_by_rows(&self, arc: TimingArc) -> TimingArc
+        requires from { arc.from < length self.now.of_bits.items }
+        requires to { arc.to < length self.now.of_bits.items }
+        ensures { result ≡ moved self.now.of_bits.items arc }
     {
-        let bits = flat.bit_count();
-        let arcs = flat.arcs();
-        let mut rows = Rows::plain(alloc, bits)?;
-        let mut given = 0;
-        for number in order.arcs().items() {
-            let arc = arcs[*number as usize];
-            given = rows.meet(arc.from, given);
-            given = rows.meet(arc.to, given);
+        TimingArc {
+            from: self.of_bits[arc.from as usize],
+            to: self.of_bits[arc.to as usize],
+            min: arc.min,
+            max: arc.max,
         }
-        Ok(rows)
     }
 }
 
@@ -108,6 +108,33 @@ pub struct ArcSequence {
 }
 
 impl ArcSequence {
+    /// The sequence over rows in the order in which the arcs come to the bits.
+    #[tactic(auto, using(mintc_timing::proofs::SharedOrdered::inside, crate::proofs::Filling::arc_inside))]
+    pub fn along(alloc: Global, flat: &Flat, order: &Order) -> Result<ArcSequence, AllocError>
+        requires { IsOrder flat.now.arcs order.now }
+        ensures { IfOk result
+            (λ sequence. IsSequence (2 * length flat.now.elements + length flat.now.inner) flat.now.arcs order.now
+            sequence) }
+    {
+        let arcs = flat.arcs();
+        let numbers = order.arcs().items();
+        let mut rows = Rows::plain(alloc, flat.bit_count())?;
+        let mut along = Vec::with_capacity(alloc, numbers.len())?;
+        let mut given = 0;
+        for number in numbers {
+            let arc = arcs[*number as usize];
+            given = rows.meet(arc.from, given);
+            given = rows.meet(arc.to, given);
+            along.push(rows.arc_by_rows(arc))?;
+        }
+        let leaving = arcs_by_row(alloc, &along, rows.of_bits.len())?;
+        Ok(ArcSequence {
+            rows,
+            along,
+            leaving,
+        })
+    }
+
     /// The sequence over these rows.
     #[tactic(auto, using(mintc_timing::proofs::SharedOrdered::inside, crate::proofs::Filling::arc_inside))]
     pub fn new(
@@ -127,10 +154,7 @@ impl ArcSequence {
         let numbers = order.arcs().items();
         let mut along = Vec::with_capacity(alloc, numbers.len())?;
         for number in numbers {
-            let mut arc = arcs[*number as usize];
-            arc.from = rows.of_bits[arc.from as usize];
-            arc.to = rows.of_bits[arc.to as usize];
-            along.push(arc)?;
+            along.push(rows.arc_by_rows(arcs[*number as usize]))?;
         }
         let leaving = arcs_by_row(alloc, &along, rows.of_bits.len())?;
         Ok(ArcSequence {

@@ -19,11 +19,5 @@ arcs_by_row-requires-clause-inside c = λ k d below.
     let is = get_or_default c.loop-number.along.items k d no_arc here ∙ h.each k (omega (arith, h.count)) in
     rw (c.deref.ensures.value, is) (omega (arith, c.requires.rows.of_bits.count, c.args.rows.of_bits.ok.0))
 
-pub index-requires : goal.index-requires
-index-requires c = grind (arith, common_steps)
-
-pub index-requires-in-loop-number : goal.index-requires-in-loop-number
-index-requires-in-loop-number c = grind (arith, common_steps)
-
 pub loop-number-preserved : goal.loop-number-preserved
 loop-number-preserved c = grind (arith, common_steps)
