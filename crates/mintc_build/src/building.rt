@@ -8,7 +8,7 @@ ghost use Rattle.mintc_build.specs.Designs.{HasSystem, IsDesignRefusal};
 
 use mintc_order::{order, orders_exclude_loops};
 use mintc_paths::extremes;
-use mintc_paths_count::count_pairs;
+use mintc_paths_count::refuse_pairs;
 use mintc_text::{Limits, Stop};
 use mintc_timing::{Flat, Order, System};
 use mintc_timing_text::read_table;
@@ -38,14 +38,14 @@ pub fn system(alloc: Global, limits: &Limits, flat: Flat) -> Result<System, Stop
     Ok(System::new(flat, order, pairs))
 }
 
-/// An order of the design's arcs, for a design that has a system, whose pairs are counted and not listed. The
-/// refusals are those of `system`.
+/// An order of the design's arcs, for a design that has a system, whose pairs aren't listed, and counted only where their
+/// number isn't plainly within the limit. The refusals are those of `system`.
 pub fn system_order(alloc: Global, limits: &Limits, flat: &Flat) -> Result<Order, Stop>
     ensures system { IfOk result (HasSystem limits.now flat.now) }
     ensures stop { IfErr result (StopsAt (IsDesignRefusal limits.now flat.now)) }
 {
     let order = order(alloc, flat)?;
     orders_exclude_loops();
-    count_pairs(alloc, limits, flat, &order)?;
+    refuse_pairs(alloc, limits, flat, &order)?;
     Ok(order)
 }

@@ -4,3 +4,4 @@ mod Leading
 mod Noting
 mod Counting
 mod Listing
+mod Bounding

@@ -6,6 +6,7 @@ ghost use Rattle.mintc_text.specs.Stops.{StopsAt};
 ghost use Rattle.mintc_timing.specs.Design.{Design};
 ghost use Rattle.mintc_timing.specs.Order.{IsOrder, ArePathsShort};
 ghost use Rattle.mintc_paths.specs.Worklist.{IsReady};
+ghost use Rattle.mintc_paths_count.specs.Bound.{HasFewPairs};
 ghost use Rattle.mintc_paths_count.specs.Count.{AreEndsOf, AreListed, IsCountBefore, IsPairCount};
 ghost use Rattle.mintc_paths_count.specs.Marks.{marks_at, AreMarksReached};
 ghost use Rattle.mintc_paths.specs.Found.{most_count};
@@ -14,6 +15,7 @@ ghost use Rattle.mintc_paths.specs.Refusals.{IsExtremesRefusal};
 ghost use Rattle.mintc_paths.specs.Sums.{IsSequence};
 
 use crate::back::count_back;
+use crate::bound::are_plainly_few;
 use crate::marks::{Marks, NO_MARKS, gather, list_reached, mark_all, mark_of};
 use mintc_bitset::Stamps;
 use mintc_paths::{
@@ -138,6 +140,23 @@ fn count_all(
         return count_back(alloc, flat, order, sequence);
     }
     count_forward(alloc, flat, order, &sequence)
+}
+
+/// Refuses a design with more pairs than the limit, or with a path that is too long. The pairs aren't counted where a
+/// look at the arcs tells that they are few. The refusals are those of `extremes`.
+pub fn refuse_pairs(alloc: Global, limits: &Limits, flat: &Flat, order: &Order) -> Result<(), Stop>
+    requires { IsOrder flat.now.arcs order.now }
+    ensures few { OnOk result (HasFewPairs limits.now flat.now) }
+    ensures short { OnOk result (ArePathsShort flat.now) }
+    ensures stop { IfErr result (StopsAt (IsExtremesRefusal limits.now flat.now)) }
+    ensures kept { AreLimits limits.now }
+{
+    let _most = limits.most();
+    if are_plainly_few(alloc, limits, flat, order)? {
+        return Ok(());
+    }
+    count_pairs(alloc, limits, flat, order)?;
+    Ok(())
 }
 
 /// The number of the design's pairs, without a list of them. The refusals are those of `extremes`.
