@@ -208,3 +208,24 @@ fn a_long_chain_has_an_order_and_closed_is_refused(rt: HostRuntime) -> Result<()
     arcs.push((bits - 1, 0))?;
     is_closed(&rt, alloc, bits, &arcs)
 }
+
+/// Whether the order of a few arcs has them as they stand.
+fn is_as_it_stands(rt: &impl Abort, alloc: Global, arcs: &[(u32, u32)]) -> Option<bool> {
+    let text = table(alloc, 5, arcs).ok()?;
+    let order = answer(rt, alloc, &text).ok()?;
+    let numbers = order.arcs().items();
+    Some(
+        numbers
+            .iter()
+            .enumerate()
+            .all(|(place, number)| place == *number as usize),
+    )
+}
+
+#[test]
+fn arcs_that_stand_in_an_order_keep_it(rt: HostRuntime) {
+    let standing = &[(1, 3), (3, 0), (0, 2), (1, 2), (2, 4), (0, 4)];
+    assert!(rt; is_as_it_stands(&rt, rt.alloc(), standing) == Some(true));
+    let turned = &[(1, 3), (0, 2), (1, 2), (3, 0), (2, 4), (0, 4)];
+    assert!(rt; is_as_it_stands(&rt, rt.alloc(), turned) == Some(false));
+}

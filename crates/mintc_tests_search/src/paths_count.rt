@@ -1,11 +1,12 @@
-//! `count_pairs` of mintc_paths_count: small designs whose pairs are listed and counted, and the limits.
+//! `count_pairs` and `refuse_pairs` of mintc_paths_count: small designs whose pairs are listed and counted, and the
+//! limits.
 use crate::cases::{
     ABOVE_LIMIT, AT_LIMIT, Case, DIAMOND, ELEVEN, ENDS, INNER, NINE, NONE, PARALLEL, PATHS, SELVES,
     UNLED, push_elements, push_row, text_of,
 };
 use crate::systems::{design_of_text, system_of_text};
 use mintc_order::order;
-use mintc_paths_count::count_pairs;
+use mintc_paths_count::{count_pairs, refuse_pairs};
 use mintc_text::{Limits, Refusal, Stop};
 use mintc_timing::Flat;
 use std::alloc::{AllocError, Global};
@@ -71,6 +72,13 @@ fn counted_of(alloc: Global, flat: &Flat) -> Result<u64, Stop> {
 fn counted(rt: &impl Abort, alloc: Global, text: &str) -> Result<u64, Stop> {
     let flat = design_of_text(rt, alloc, text)?;
     counted_of(alloc, &flat)
+}
+
+/// What `refuse_pairs` says of a table.
+fn refused(rt: &impl Abort, alloc: Global, text: &str) -> Result<(), Stop> {
+    let flat = design_of_text(rt, alloc, text)?;
+    let order = order(alloc, &flat)?;
+    refuse_pairs(alloc, &Limits::usual(), &flat, &order)
 }
 
 /// What `count_pairs` gives for a case.
@@ -140,4 +148,27 @@ fn refusal_21_comes_where_a_path_is_too_long(rt: HostRuntime) {
         }
         _ => panic!(rt; "accepted"),
     }
+}
+
+#[test]
+fn pairs_are_refused_where_their_count_is(rt: HostRuntime) -> Result<(), Fail> {
+    for case in &[NINE, INNER, PATHS, AT_LIMIT, NONE, ENDS, ABOVE_LIMIT] {
+        let text = text_of(rt.alloc(), case)?;
+        let is_counted = counted(&rt, rt.alloc(), &text).is_ok();
+        assert!(rt;
+            refused(&rt, rt.alloc(), &text).is_ok() == is_counted,
+            "{}",
+            case.name
+        );
+    }
+    Ok(())
+}
+
+#[test]
+fn pairs_that_are_plainly_few_are_accepted(rt: HostRuntime) -> Result<(), Fail> {
+    let text = crowd_text(rt.alloc(), 447)?;
+    assert!(rt; refused(&rt, rt.alloc(), &text).is_ok());
+    let text = crowd_text(rt.alloc(), 448)?;
+    assert!(rt; refused(&rt, rt.alloc(), &text).is_err());
+    Ok(())
 }
