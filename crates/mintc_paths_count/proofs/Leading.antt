@@ -73,9 +73,9 @@ AreMarksAlong-begun n arcs order rows first lanes marks h bit lane below few =
 -- what a call of carry leaves
 pub record AreCarriedMarks (arc : TimingArc) (old new : List Marks) : Type 0 where
   pub others : (row : ℕ) → row ≢ arc.to → marks_at new row ≡ marks_at old row
-  pub joined : (lane : ℕ) → lane < 256 → mark_in (marks_at new arc.to) lane ≡ max (mark_in (marks_at old arc.to) lane) (mark_in (marks_at old arc.from) lane)
+  pub joined : (lane : ℕ) → lane < 128 → mark_in (marks_at new arc.to) lane ≡ max (mark_in (marks_at old arc.to) lane) (mark_in (marks_at old arc.from) lane)
 
-module _ (n : ℕ) (arcs : List TimingArc) (order : List ℕ) (is_order : IsOrder arcs order) (rows bits : List ℕ) (h : LeadsBack n rows bits) (k first lanes : ℕ) (few : lanes ≤ 256)
+module _ (n : ℕ) (arcs : List TimingArc) (order : List ℕ) (is_order : IsOrder arcs order) (rows bits : List ℕ) (h : LeadsBack n rows bits) (k first lanes : ℕ) (few : lanes ≤ 128)
     (low : k < length order) (in_from : (arc_of arcs order is_order k).from < n) (in_to : (arc_of arcs order is_order k).to < n) (old new : List Marks)
     (carried : AreCarriedMarks (moved rows (arc_of arcs order is_order k)) old new) (before : AreMarksAlong n arcs order k rows first lanes old) where
   abbrev arc : TimingArc

@@ -15,7 +15,7 @@ use Rattle.mintc_paths.proofs.SharedClimbing.{IsToEnd, IsToEnd-at, IsToEnd-more,
 abbrev pub IsCountToEnd : Design → ℕ → List ℕ → ℕ → ℕ → Type 0
 IsCountToEnd design from listed number count = IsToEnd (λ to. IsCountBefore design from to count) (length design.elements) listed number
 
-module _ (design : Design) (from lane : ℕ) (low : lane < 256) (ends : List Marks) (listed : List ℕ) (are_ends : AreEndsOf design from lane ends)
+module _ (design : Design) (from lane : ℕ) (low : lane < 128) (ends : List Marks) (listed : List ℕ) (are_ends : AreEndsOf design from lane ends)
     (are_listed : AreListed (λ to. marks_at ends to ≡ NO_MARKS) (length design.elements) listed) where
   -- an element that isn't listed isn't marked
   skip : (count to : ℕ) → to < length design.elements → ((i : ℕ) → i < length listed → end_at listed i ≢ to) → IsCountBefore design from to count → IsCountBefore design from (to + 1) count

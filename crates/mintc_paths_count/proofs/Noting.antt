@@ -29,7 +29,7 @@ noted_more old new reached row same others m = record {
 }
 
 -- no lane of no marks is set
-pub none_in : (marks : Marks) (lane : ℕ) → lane < 256 → marks ≡ NO_MARKS → mark_in marks lane ≡ 0
+pub none_in : (marks : Marks) (lane : ℕ) → lane < 128 → marks ≡ NO_MARKS → mark_in marks lane ≡ 0
 none_in marks lane low e = grind (arith, e, bit_at-zero (lane % 64))
 
 -- what a call of set leaves
@@ -38,7 +38,7 @@ pub record IsBegunMark (old new : List Marks) (row lane : ℕ) : Type 0 where
   pub lanes : (other : ℕ) → other ≢ lane → mark_in (marks_at new row) other ≡ mark_in (marks_at old row) other
   pub own : mark_in (marks_at new row) lane ≡ 1
 
-module _ (n : ℕ) (rows bits : List ℕ) (h : LeadsBack n rows bits) (first lane : ℕ) (few : lane < 256) (old new : List Marks) (inside : output_of (first + lane) < n)
+module _ (n : ℕ) (rows bits : List ℕ) (h : LeadsBack n rows bits) (first lane : ℕ) (few : lane < 128) (old new : List Marks) (inside : output_of (first + lane) < n)
     (begun : IsBegunMark old new (row_of rows (output_of (first + lane))) lane) (before : AreMarksBegun n rows first lane old) where
   abbrev out : ℕ
   out = output_of (first + lane)
@@ -81,7 +81,7 @@ carried_none arc marks none = record {
 }
 
 module _ (design : Design) (order : List ℕ) (is_order : IsOrder design.arcs order) (kept : IsDesign design) (sequence : ArcSequence) (n : ℕ) (is_sequence : IsSequence n design.arcs order sequence)
-    (bits : n ≡ 2 * length design.elements + length design.inner) (first lanes : ℕ) (few : lanes ≤ 256) where
+    (bits : n ≡ 2 * length design.elements + length design.inner) (first lanes : ℕ) (few : lanes ≤ 128) where
   -- the marks along so many arcs
   abbrev pub Along : ℕ → List Marks → Type 0
   Along k marks = AreMarksAlong n design.arcs order k sequence.rows.of_bits.items first lanes marks

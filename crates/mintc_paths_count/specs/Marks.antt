@@ -1,4 +1,4 @@
--- Marks at bits: whether a path leads there from each of up to 256 elements.
+-- Marks at bits: whether a path leads there from each of up to 128 elements.
 use Rattle.std.specs.Prelude.{◌≡◌, ◌<◌, ◌≤◌, ◌+◌, ◌/◌, ◌%◌, ℕ, List, [], length, slice_index_or, Bool, false}
 use Rattle.std.specs.Int.{bit_at}
 use Rattle.mintc_timing.specs.declared.parts.TimingArc.{TimingArc}
@@ -41,7 +41,7 @@ AreMarksAlong n arcs order k rows first lanes marks = (bit lane : ℕ) → bit <
 pub record AreMarksBegun (n : ℕ) (rows : List ℕ) (first lanes : ℕ) (marks : List Marks) : Type 0 where
   pub begun : (bit lane : ℕ) → bit < n → lane < lanes →
       IsMarkOf (bit ≡ output_of (first + lane)) (mark_in (marks_at marks (row_of rows bit)) lane)
-  pub absent : (bit lane : ℕ) → bit < n → lanes ≤ lane → lane < 256 →
+  pub absent : (bit lane : ℕ) → bit < n → lanes ≤ lane → lane < 128 →
       mark_in (marks_at marks (row_of rows bit)) lane ≡ 0
 
 -- There is a place for each row, and a row that isn't marked as reached has no marks.

@@ -33,7 +33,7 @@ fn count_from(count: u64, ends: &[Marks], listed: &[u32], element: u32, lane: us
     requires inputs { length ends.now ≡ length design.elements }
     requires few { length design.elements ≤ MOST_ELEMENTS }
     requires element { element < length design.elements }
-    requires lane { lane < 256 }
+    requires lane { lane < 128 }
     requires ends { AreEndsOf design element lane ends.now }
     requires listed { AreListed (λ to. marks_at ends.now to ≡ NO_MARKS) (length design.elements) listed.now }
     requires count { IsCountBefore design element 0 count }
@@ -46,7 +46,7 @@ fn count_from(count: u64, ends: &[Marks], listed: &[u32], element: u32, lane: us
     count
 }
 
-/// The number of all pairs of a design with as many elements as there are ends, which are marked by 256 at a time.
+/// The number of all pairs of a design with as many elements as there are ends, which are marked by 128 at a time.
 fn count_each(
     alloc: Global,
     sequence: &ArcSequence,
@@ -67,7 +67,7 @@ fn count_each(
     let mut count = 0;
     let mut first = 0;
     while first < elements {
-        let lanes = (elements - first).min(256);
+        let lanes = (elements - first).min(128);
         mark_all(marks, reached, awake, sequence, first, lanes as usize);
         gather(ends, marks, &sequence.rows);
         list_reached(&mut listed, reached, &sequence.rows, elements)?;

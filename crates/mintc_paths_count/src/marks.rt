@@ -1,4 +1,4 @@
-//! Marks at bits, of up to 256 elements at a time: whether a path leads there from each of them.
+//! Marks at bits, of up to 128 elements at a time: whether a path leads there from each of them.
 ghost use Rattle.std.specs.Prelude.{◌≡◌, ◌≢◌, ◌+◌, ◌*◌, ◌<◌, ◌≤◌, ℕ, List, length, max, slice_index_or, false, OnOk};
 ghost use Rattle.mintc_text.specs.declared.limits.TheConstants.{MOST_ELEMENTS};
 ghost use Rattle.mintc_timing.specs.Paths.{input_of};
@@ -16,18 +16,18 @@ use mintc_paths::{ArcSequence, Rows, Worklist};
 use mintc_timing::TimingArc;
 use std::alloc::AllocError;
 
-/// The marks of 256 elements, a bit for each.
+/// The marks of 128 elements, a bit for each.
 #[derive(Clone, Copy)]
 pub(crate) struct Marks {
-    pub words: [u64; 4],
+    pub words: [u64; 2],
 }
 
 /// The marks where no path leads.
-pub(crate) const NO_MARKS: Marks = Marks { words: [0; 4] };
+pub(crate) const NO_MARKS: Marks = Marks { words: [0; 2] };
 
 /// The mark of a lane, 1 where it is set.
 pub(crate) fn mark_of(marks: &Marks, lane: usize) -> u64
-    requires { lane < 256 }
+    requires { lane < 128 }
     ensures { result ≡ mark_in marks.now lane }
 {
     (marks.words[lane / 64] >> (lane % 64)) & 1
@@ -36,7 +36,7 @@ pub(crate) fn mark_of(marks: &Marks, lane: usize) -> u64
 /// Sets the mark of a lane in a row.
 fn set(marks: &mut [Marks], row: usize, lane: usize)
     requires row { row < length marks.old }
-    requires lane { lane < 256 }
+    requires lane { lane < 128 }
     ensures others { (other : ℕ) → other ≢ row → marks_at marks.new other ≡ marks_at marks.old other }
     ensures lanes { (other : ℕ) → other ≢ lane →
         mark_in (marks_at marks.new row) other ≡ mark_in (marks_at marks.old row) other }
@@ -70,7 +70,7 @@ fn begin(
     first: u32,
     lanes: usize,
 )
-    requires lanes { lanes ≤ 256 }
+    requires lanes { lanes ≤ 128 }
     requires outputs { 2 * (first + lanes) ≤ length marks.old }
     requires rows { AreRows (length marks.old) sequence.now.rows }
     requires leaving { AreLeaving sequence.now.along.items (length marks.old) sequence.now.leaving }
@@ -91,15 +91,10 @@ fn begin(
 /// The marks that are set in one of two rows.
 #[tactic(auto, using(std::proofs::lemmas::Nat::Bits::bit_at_or))]
 fn union_of(a: &Marks, b: &Marks) -> Marks
-    ensures { (lane : ℕ) → lane < 256 → mark_in result lane ≡ max (mark_in a.now lane) (mark_in b.now lane) }
+    ensures { (lane : ℕ) → lane < 128 → mark_in result lane ≡ max (mark_in a.now lane) (mark_in b.now lane) }
 {
     Marks {
-        words: [
-            a.words[0] | b.words[0],
-            a.words[1] | b.words[1],
-            a.words[2] | b.words[2],
-            a.words[3] | b.words[3],
-        ],
+        words: [a.words[0] | b.words[0], a.words[1] | b.words[1]],
     }
 }
 
@@ -120,7 +115,7 @@ fn carry(
     ensures awake { (place : ℕ) → IsAwake sequence.now.along.items place reached.old awake.old
         → IsAwake sequence.now.along.items place reached.new awake.new }
     ensures others { (row : ℕ) → row ≢ arc.to → marks_at marks.new row ≡ marks_at marks.old row }
-    ensures joined { (lane : ℕ) → lane < 256
+    ensures joined { (lane : ℕ) → lane < 128
         → mark_in (marks_at marks.new arc.to) lane
         ≡ max (mark_in (marks_at marks.old arc.to) lane) (mark_in (marks_at marks.old arc.from) lane) }
 {
@@ -143,7 +138,7 @@ pub(crate) fn mark_all(
 )
     ghost of: { Ordered }
     requires sequence { IsSequenceOf (length marks.old) of sequence.now }
-    requires lanes { lanes ≤ 256 }
+    requires lanes { lanes ≤ 128 }
     requires elements { first + lanes ≤ length of.design.elements }
     requires marked { AreMarksReached marks.old reached.old }
     requires ready { IsReady (length sequence.now.along.items) awake.old }
