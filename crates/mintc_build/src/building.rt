@@ -38,8 +38,8 @@ pub fn system(alloc: Global, limits: &Limits, flat: Flat) -> Result<System, Stop
     Ok(System::new(flat, order, pairs))
 }
 
-/// An order of the design's arcs, for a design that has a system, whose pairs aren't listed, and counted only where their
-/// number isn't plainly within the limit. The refusals are those of `system`.
+/// An order of the design's arcs, for a design that has a system, whose pairs aren't listed, and counted only where
+/// their number isn't plainly within the limit. The refusals are those of `system`.
 pub fn system_order(alloc: Global, limits: &Limits, flat: &Flat) -> Result<Order, Stop>
     ensures system { IfOk result (HasSystem limits.now flat.now) }
     ensures stop { IfErr result (StopsAt (IsDesignRefusal limits.now flat.now)) }

@@ -42,7 +42,8 @@ pub record AreRows (n : ℕ) (rows : Rows) : Type 0 where
 pub record IsMet (before : List ℕ) (bit given : ℕ) (after : List ℕ) (given_after : ℕ) : Type 0 where
   pub more : given ≤ given_after
   pub own : row_of after bit < given_after
-  pub kept : (other : ℕ) → other < length before → row_of before other < given → row_of after other ≡ row_of before other
+  pub kept : (other : ℕ) → other < length before → row_of before other < given →
+      row_of after other ≡ row_of before other
 
 -- the arc from row to row
 abbrev pub moved : List ℕ → TimingArc → TimingArc

@@ -1,6 +1,7 @@
 //! How many pairs a design has at most, by a look at its arcs alone.
 ghost use Rattle.std.specs.Prelude.{◌≡◌, ◌≤◌, length, IfOk};
 ghost use Rattle.std.specs.Bool.{OnTrue};
+ghost use Rattle.mintc_text.specs.Limits.{AreLimits};
 ghost use Rattle.mintc_text.specs.declared.limits.TheConstants.{MOST_ELEMENTS};
 ghost use Rattle.mintc_timing.specs.Limits.{IsDesign};
 ghost use Rattle.mintc_timing.specs.Order.{IsOrder, ArePathsShort};
@@ -26,8 +27,8 @@ fn pairs_by(arc: TimingArc, elements: u32) -> u64
     }
 }
 
-/// No more pairs than this are in the design: what its arcs into inputs bring, one each from an output and one from each
-/// element where an arc comes from an inner bit.
+/// No more pairs than this are in the design: what its arcs into inputs bring, one each from an output and one from
+/// each element where an arc comes from an inner bit.
 fn most_pairs(flat: &Flat) -> u64
     ensures value { result ≡ most_pairs (length flat.now.elements) flat.now.arcs }
     ensures design { IsDesign flat.now }
@@ -50,6 +51,7 @@ pub(crate) fn are_plainly_few(
     requires { IsOrder flat.now.arcs order.now }
     ensures few { IfOk result (λ few. OnTrue few (HasFewPairs limits.now flat.now)) }
     ensures short { IfOk result (λ few. OnTrue few (ArePathsShort flat.now)) }
+    ensures kept { AreLimits limits.now }
 {
     if (limits.most().pairs as u64) < most_pairs(flat) {
         return Ok(false);

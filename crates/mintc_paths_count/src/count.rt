@@ -151,7 +151,6 @@ pub fn refuse_pairs(alloc: Global, limits: &Limits, flat: &Flat, order: &Order) 
     ensures stop { IfErr result (StopsAt (IsExtremesRefusal limits.now flat.now)) }
     ensures kept { AreLimits limits.now }
 {
-    let _most = limits.most();
     if are_plainly_few(alloc, limits, flat, order)? {
         return Ok(());
     }
