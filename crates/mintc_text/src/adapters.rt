@@ -1,9 +1,9 @@
 //! The outside as it is: files of a folder, and standard output.
-ghost use Rattle.std.specs.Prelude.{◌≡◌, ◌≤◌, None, IfOk, length, is_ok};
+ghost use Rattle.std.specs.Prelude.{◌≡◌, ◌≤◌, ◌+◌, None, IfOk, OnOk, length, is_ok, vec_len, vec_capacity};
 ghost use Rattle.mintc_text.specs.Outside.{faults_after};
 
 use crate::{Failed, Shelf, ShelfError, Sink};
-use std::alloc::Global;
+use std::alloc::{AllocError, Global};
 use std::fs;
 use std::io::Read;
 use std::marker::Model;
@@ -27,6 +27,17 @@ impl<'a, R: Files> Model for FolderShelf<'a, R> {
     ghost view = { λ s. s.faults };
 }
 
+/// Room for `count` bytes more in a list that takes at most `most`: twice its bytes where they are enough, but no more
+/// than `most`, so that a file at its limit has no buffer of twice its size.
+fn make_room(bytes: &mut Vec<u8>, count: usize, most: usize) -> Result<(), AllocError>
+    requires most { vec_len bytes.old + count ≤ most }
+    ensures kept { bytes.new.items ≡ bytes.old.items }
+    ensures room { OnOk result (vec_len bytes.new + count ≤ vec_capacity bytes.new) }
+{
+    let len = bytes.len();
+    bytes.reserve_exact(len.max(count).min(most - len))
+}
+
 /// The first bytes that a file has left, at most so many. Fails where a read fails, however much came before.
 pub fn read_front<F: Read>(file: &mut F, alloc: Global, most: usize) -> Result<Vec<u8>, ShelfError>
     ensures { IfOk result (λ v. length v.items ≤ most) }
@@ -41,6 +52,9 @@ pub fn read_front<F: Read>(file: &mut F, alloc: Global, most: usize) -> Result<V
         if count == 0 {
             break;
         }
+        let Ok(()) = make_room(&mut bytes, count, most) else {
+            return Err(ShelfError::OutOfMemory);
+        };
         let Ok(()) = bytes.extend_from_slice(&piece[..count]) else {
             return Err(ShelfError::OutOfMemory);
         };

@@ -46,6 +46,36 @@ pub const MOST_MEMBERS: usize = 32_768;
 /// Latches and flops of a design for which slacks are found.
 pub const MOST_SLACK: usize = 2_000;
 
+/// Nodes of a design's constraints: its start, two of each phase and one of each element.
+pub const MOST_NODES: usize = 1 + 2 * MOST_PHASES + MOST_ELEMENTS;
+
+/// As `MOST_NODES`, of a design for which slacks are found.
+pub const SHORT_NODES: usize = 1 + 2 * MOST_PHASES + MOST_SLACK;
+
+/// The absolute value of a link's delay: four lengths of time of a design.
+pub const MOST_LINK_DELAY: u64 = 4 * MOST_DELAY as u64;
+
+/// How often the range of a ratio is halved until one of `MOST_NODES` nodes alone is left in it.
+pub const MOST_HALVINGS: u32 = 75;
+
+/// As `MOST_HALVINGS`, of at most `SHORT_NODES` nodes.
+pub const SHORT_HALVINGS: u32 = 65;
+
+const _: () = prove!(
+    MOST_LINK_DELAY as u128 * (MOST_NODES * MOST_NODES * MOST_NODES) as u128 <= 1 << MOST_HALVINGS
+);
+
+const _: () = prove!(
+    MOST_LINK_DELAY as u128 * (SHORT_NODES * SHORT_NODES * SHORT_NODES) as u128
+        <= 1 << SHORT_HALVINGS
+);
+
+/// Tests of a ratio: one before all halvings, one for each, and two behind them.
+pub const MOST_TESTS: u64 = MOST_HALVINGS as u64 + 3;
+
+/// As `MOST_TESTS`, for at most `SHORT_NODES` nodes.
+pub const SHORT_TESTS: u64 = SHORT_HALVINGS as u64 + 3;
+
 /// A count that a line of a text can say.
 pub const MOST_COUNT: u32 = 999_999_999;
 
