@@ -1,5 +1,6 @@
 -- Lists of links within their limits.
 use Rattle.std.specs.Prelude.{◌≡◌, ◌<◌, ◌≤◌, ◌^◌, ℕ, pos, negsuc, ◌≤ℤ◌, List, length, All}
+use Rattle.mintc_text.specs.declared.limits.TheConstants.{MOST_NODES}
 use Rattle.mintc_timing.specs.declared.link.Link.{Link}
 use Rattle.mintc_graph.specs.Rings.{LeadsBy}
 use Rattle.mintc_timing.specs.Links.{no_link, link_at}
@@ -34,10 +35,10 @@ pub record IsOrdinaryLink (count : ℕ) (k : Link) : Type 0 where
   pub cycles : k.cycles ≤ 1
   pub delay : (negsuc 3999999999 ≤ℤ k.delay) × (k.delay ≤ℤ pos 2000000000)
 
--- the most nodes and the most links that a list may have: time 0, the starts and ends of 8 phases and 20,000
--- elements; and the links of 40,000,000 pairs with all others
+-- the most nodes and the most links that a list may have: time 0, the starts and ends of phases and the elements; and
+-- the links of 40,000,000 pairs with all others
 abbrev pub most_nodes : ℕ
-most_nodes = 20017
+most_nodes = MOST_NODES
 
 abbrev pub AreFew : List Link → Type 0
 AreFew links = length links < 2 ^ 28

@@ -1,6 +1,8 @@
 -- Where the search stands between two turns.
 use Rattle.std.specs.Prelude.{◌≡◌, ◌<◌, ◌≤◌, ◌*◌, ◌+◌, ◌-◌, ◌^◌, ℕ, ℤ, pos, ◌-ℤ◌, ◌*ℤ◌, ◌≤ℤ◌, ◌<ℤ◌, List, length, min}
 use Rattle.std.specs.Prelude.{nat_lt, if◌then◌else◌}
+use Rattle.mintc_text.specs.declared.limits.TheConstants.{MOST_LINK_DELAY, SHORT_NODES}
+use Rattle.mintc_text.specs.declared.limits.TheConstants.{MOST_HALVINGS, MOST_TESTS, SHORT_HALVINGS, SHORT_TESTS}
 use Rattle.mintc_fraction.specs.Ratio.{over, IsFloor}
 use Rattle.mintc_timing.specs.declared.link.Link.{Link}
 use Rattle.mintc_timing.specs.Links.{delay_of, cycles_of, link_at}
@@ -30,19 +32,14 @@ grid_of nodes = pos (2 * nodes * nodes)
 
 -- a cycle time on the grid that no chain with a cycle exceeds
 abbrev pub top_of : ℕ → ℤ
-top_of nodes = pos (4000000000 * nodes * nodes * nodes)
+top_of nodes = pos (MOST_LINK_DELAY * nodes * nodes * nodes)
 
--- how many nodes a list may have at most that a search settles in few tests
-abbrev pub short_nodes : ℕ
-short_nodes = 2017
-
--- how often a search may halve what lies below the top, and how many tests it takes at most: few more for a list of
--- more nodes than 2,000 elements and 8 phases have
+-- how often a search may halve what lies below the top, and how many tests it takes at most, by the number of nodes
 abbrev pub most_halvings : ℕ → ℕ
-most_halvings nodes = if nat_lt short_nodes nodes then 75 else 65
+most_halvings nodes = if nat_lt SHORT_NODES nodes then MOST_HALVINGS else SHORT_HALVINGS
 
 abbrev pub most_tests : ℕ → ℕ
-most_tests nodes = if nat_lt short_nodes nodes then 78 else 68
+most_tests nodes = if nat_lt SHORT_NODES nodes then MOST_TESTS else SHORT_TESTS
 
 -- No chain with a cycle forbids the cycle time of so many parts of the grid.
 abbrev pub IsHigh : Constraints → ℤ → Type 0

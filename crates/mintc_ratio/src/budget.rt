@@ -4,15 +4,7 @@ ghost use Rattle.std.specs.Bool.{OnFalse, OnTrue};
 ghost use Rattle.mintc_constraints.specs.Ordinary.{most_nodes};
 ghost use Rattle.mintc_ratio.specs.Climbing.{most_tests};
 
-/// How many nodes a list may have at most that a search settles in few tests: more than 2,000 elements and 8 phases
-/// have.
-const SHORT_NODES: u32 = 2017;
-
-/// How many tests a search takes at most over so many nodes.
-const SHORT_TESTS: u64 = 68;
-
-/// How many tests a search takes at most over any list.
-const MOST_TESTS: u64 = 78;
+use mintc_text::limits::{MOST_TESTS, SHORT_NODES, SHORT_TESTS};
 
 /// How often a range can be halved before it is one part of the grid.
 fn halvings(width: u128) -> u32
@@ -32,7 +24,7 @@ fn halvings(width: u128) -> u32
 fn most_tests(nodes: u32) -> u64
     ensures { result ≡ most_tests nodes }
 {
-    if nodes > SHORT_NODES {
+    if nodes as usize > SHORT_NODES {
         MOST_TESTS
     } else {
         SHORT_TESTS

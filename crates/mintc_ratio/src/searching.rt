@@ -12,6 +12,7 @@ use crate::{Test, test_at};
 use mintc_constraints::{LinkList, Room};
 use mintc_fraction::Fraction;
 use mintc_graph_walks::Steps;
+use mintc_text::limits::MOST_LINK_DELAY;
 use std::sync::ledger::Ledger;
 
 /// What the search for the least cycle time finds.
@@ -29,7 +30,7 @@ fn top_of(nodes: u32) -> i128
     ensures { result ≡ top_of nodes }
 {
     let nodes = i128::from(nodes);
-    4_000_000_000 * nodes * nodes * nodes
+    i128::from(MOST_LINK_DELAY) * nodes * nodes * nodes
 }
 
 /// Searches on from a chain in the room, in as many steps as are left.

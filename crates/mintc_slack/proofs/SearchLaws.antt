@@ -2,6 +2,7 @@
 use Rattle.std.proofs.Common.{◌≡◌, ◌≤◌, ℤ, pos, negsuc, ◌≤ℤ◌, List, length, arith, refl, subst, unsigned_abs}
 use Rattle.std.proofs.lemmas.Int.{ints}
 use Rattle.std.specs.List.{All}
+use Rattle.mintc_text.specs.declared.limits.TheConstants.{SHORT_NODES}
 use Rattle.mintc_fraction.specs.Ratio.{Ratio, IsModest}
 use Rattle.mintc_graph_walks.specs.Walks.{value_at}
 use Rattle.mintc_timing.specs.declared.link.Link.{Link}
@@ -19,7 +20,7 @@ use Rattle.mintc_constraints.proofs.SharedExistenceLaws.{feasible_has_right_lem}
 use Rattle.mintc_ratio.specs.Chains.{NamesChain, links_at}
 use Rattle.mintc_ratio.specs.Searched.{IsCycle, IsLeast}
 use Rattle.mintc_ratio.specs.Sums.{most_delay}
-use Rattle.mintc_slack.specs.Short.{IsShortCycle, most_short}
+use Rattle.mintc_slack.specs.Short.{IsShortCycle}
 use Rattle.mintc_ratio.proofs.SharedSumsLaws.{few_links}
 
 pub is_modest : (cycle : Ratio) → IsCycle cycle → IsModest cycle
@@ -30,7 +31,7 @@ is_modest cycle is = record { num = abs_low cycle.num is.low is.num; den = (let 
     abs_low (negsuc n) low high = absurd (omega (arith, ints))
 
 -- At the least cycle of a list of few nodes sums are small.
-pub is_short : (list : Constraints) (cycle : Ratio) (room : Space) → IsLeast list cycle room → list.nodes ≤ most_short → IsShortCycle cycle
+pub is_short : (list : Constraints) (cycle : Ratio) (room : Space) → IsLeast list cycle room → list.nodes ≤ SHORT_NODES → IsShortCycle cycle
 is_short list cycle room found few =
     let num = found.small.0 in
     let den = found.small.1 in

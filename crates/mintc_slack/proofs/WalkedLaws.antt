@@ -3,6 +3,7 @@ use Rattle.std.proofs.Common.{◌≤◌, ◌≡◌, ◌≢◌, ℕ, ◌<◌, ◌
 use Rattle.std.proofs.lemmas.Int.{ints}
 use Rattle.std.proofs.lemmas.Bool.{cases_eq}
 use Rattle.std.specs.List.{Contains}
+use Rattle.mintc_text.specs.declared.limits.TheConstants.{SHORT_NODES}
 use Rattle.mintc_fraction.specs.Ratio.{Ratio}
 use Rattle.mintc_timing.specs.declared.link.Link.{Link}
 use Rattle.mintc_timing.specs.Design.{Timing, element_at, element_count, phase_count, phase_of, no_element}
@@ -16,7 +17,7 @@ use Rattle.mintc_graph_walks.specs.declared.network.TheConstants.{UNREACHED}
 use Rattle.mintc_graph_walks.specs.Bounds.{AreBounded, IsWithin}
 use Rattle.mintc_graph_walks.specs.Walks.{value_at}
 use Rattle.mintc_ratio.specs.From.{AreGreatestFrom, StayWithin}
-use Rattle.mintc_slack.specs.Short.{IsShortCycle, most_short}
+use Rattle.mintc_slack.specs.Short.{IsShortCycle}
 use Rattle.mintc_slack.specs.WalkedFrom.{AreSettled}
 use Rattle.mintc_slack.specs.PairRoom.{AreFrom}
 use Rattle.mintc_slack.proofs.SizeLaws.{asked_small, larger}
@@ -72,13 +73,13 @@ module _ (t : Timing) (list : Constraints) (list_is : list ≡ constraints_of (n
         walked = g.asked;
       }
 
-  pub are_within : IsShortCycle at → IsOrdinary list → list.nodes ≤ most_short → AreBounded 0 starts → StayWithin list at starts values → (node : ℕ) → node < node_count t.flat → IsWithin 30000000000000000 (value_at values node)
+  pub are_within : IsShortCycle at → IsOrdinary list → list.nodes ≤ SHORT_NODES → AreBounded 0 starts → StayWithin list at starts values → (node : ℕ) → node < node_count t.flat → IsWithin 30000000000000000 (value_at values node)
   are_within is all few bounds stay node h =
       let count = ap (λ (c : Constraints). c.nodes) list_is in
       larger (0 + list.nodes * 13000000000000) 30000000000000000 (value_at values node) (omega arith)
       (stay 0 13000000000000 bounds (λ n d below. let k = all.each n d below in let low = k.delay.0 in let high = k.delay.1 in asked_small at (get_or list.links n d) is (omega (arith, ints), omega (arith, ints)) k.cycles) node (omega arith))
 
-  pub are_settled : IsShortCycle at → IsOrdinary list → list.nodes ≤ most_short → AreBounded 0 starts → StayWithin list at starts values → AreGreatestFrom list at (element_node t.flat l) values → AreSettled t at l values
+  pub are_settled : IsShortCycle at → IsOrdinary list → list.nodes ≤ SHORT_NODES → AreBounded 0 starts → StayWithin list at starts values → AreGreatestFrom list at (element_node t.flat l) values → AreSettled t at l values
   are_settled is all few bounds stay h = record {
     count = h.count ∙ ap (λ (c : Constraints). c.nodes) list_is;
     small = λ node below. larger 30000000000000000 200000000000000000 (value_at values node) (omega arith) (are_within is all few bounds stay node below);

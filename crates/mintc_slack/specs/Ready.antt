@@ -1,11 +1,12 @@
 -- What walks from elements begin with.
 use Rattle.std.specs.Prelude.{◌≡◌, ◌<◌, ◌≤◌, length}
 use Rattle.std.specs.Bool.{OnTrue}
+use Rattle.mintc_text.specs.declared.limits.TheConstants.{SHORT_NODES}
 use Rattle.mintc_fraction.specs.Ratio.{Ratio}
 use Rattle.mintc_timing.specs.Design.{Timing}
 use Rattle.mintc_timing.specs.Links.{links_of, node_count}
 use Rattle.mintc_constraints.specs.Ordinary.{Constraints, constraints_of}
-use Rattle.mintc_slack.specs.Short.{IsShortCycle, most_short}
+use Rattle.mintc_slack.specs.Short.{IsShortCycle}
 use Rattle.mintc_slack.specs.declared.walked.SlackWalks.{SlackWalks}
 use Rattle.mintc_slack.specs.Gaps.{AreGaps}
 use Rattle.mintc_slack.specs.Rows.{AreInRows}
@@ -18,7 +19,7 @@ pub record IsReady (t : Timing) (list : Constraints) (at : Ratio) (w : SlackWalk
   pub at_is : w.at.now ≡ at
   pub links : list ≡ constraints_of (node_count t.flat) (links_of t)
   pub cycle : IsShortCycle at
-  pub short : list.nodes ≤ most_short
+  pub short : list.nodes ≤ SHORT_NODES
   pub hub : w.hub < list.nodes
   pub gaps : AreGaps list at w.hub w.potentials.items w.rows.gaps.items
   pub rows : OnTrue w.in_rows (AreInRows w.rows.gaps.items w.rows.firsts.items)

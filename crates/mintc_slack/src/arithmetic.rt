@@ -1,5 +1,6 @@
 //! Numerators at a cycle time of the search, and what is reckoned with them: they are so small that nothing overflows.
 ghost use Rattle.std.specs.Prelude.{◌≡◌, ◌≤◌, ◌+ℤ◌, ◌-ℤ◌, neg_ℤ};
+ghost use Rattle.mintc_text.specs.declared.limits.TheConstants.{MOST_LINK_DELAY};
 ghost use Rattle.mintc_fraction.specs.Ratio.{IsModest, over};
 ghost use Rattle.mintc_ratio.specs.Greatest.{asked_by_link};
 ghost use Rattle.mintc_slack.specs.Short.{IsShortCycle};
@@ -12,7 +13,7 @@ use mintc_timing::Link;
 
 /// What a link asks for.
 pub(crate) fn asked_of(link: &Link, at: &Fraction) -> i128
-    requires delay { IsWithin 4000000000 link.now.delay }
+    requires delay { IsWithin MOST_LINK_DELAY link.now.delay }
     requires cycles { link.now.cycles ≤ 1 }
     requires cycle { IsShortCycle at.now }
     ensures value { result ≡ asked_by_link at.now link.now }

@@ -1,12 +1,13 @@
 //! The slack of each pair.
 ghost use Rattle.std.specs.Prelude.{◌≡◌, ◌<◌, ◌≤◌, ℕ, IfOk, OnOk, length};
 ghost use Rattle.std.specs.Bool.{OnFalse};
+ghost use Rattle.mintc_text.specs.declared.limits.TheConstants.{SHORT_NODES};
 ghost use Rattle.mintc_text.specs.declared.limits.TheConstants.{MOST_SLACK};
 ghost use Rattle.mintc_timing.specs.Design.{element_count};
 ghost use Rattle.mintc_timing.specs.Links.{links_of, node_count};
 ghost use Rattle.mintc_timing.specs.Right.{IsLeastCycle};
 ghost use Rattle.mintc_constraints.specs.Ordinary.{constraints_of};
-ghost use Rattle.mintc_slack.specs.Short.{IsShortCycle, most_short};
+ghost use Rattle.mintc_slack.specs.Short.{IsShortCycle};
 ghost use Rattle.mintc_ratio.specs.Tested.{NoneForbids};
 ghost use Rattle.mintc_slack.specs.WalkedFrom.{AreSettled};
 ghost use Rattle.mintc_slack.specs.Answers.{IsSlackAnswer};
@@ -104,7 +105,7 @@ fn extras<L: Ledger>(
 ) -> Result<Departures, OutOfMemory>
     requires list { list.now ≡ constraints_of (node_count system.now.flat) (links_of system.now) }
     requires cycle { IsShortCycle cycle.now }
-    requires short { list.now.nodes ≤ most_short }
+    requires short { list.now.nodes ≤ SHORT_NODES }
     requires free { NoneForbids list.now.links cycle.now }
     requires nodes { list.now.nodes ≤ room.old.nodes }
     requires chain { length room.old.chain ≤ list.now.nodes }

@@ -3,6 +3,7 @@
 ghost use Rattle.std.specs.Prelude.{◌≡◌, ◌<◌, ◌≤◌, ℕ, All, IfOk, length, map};
 ghost use Rattle.std.specs.Bool.{OnTrue};
 ghost use Rattle.std.specs.List.Sorted.{IsPermutation};
+ghost use Rattle.mintc_text.specs.declared.limits.TheConstants.{MOST_LINK_DELAY};
 ghost use Rattle.mintc_slack.specs.Short.{IsShortCycle};
 ghost use Rattle.mintc_graph_walks.specs.Bounds.{IsWithin};
 ghost use Rattle.mintc_graph_walks.specs.Walks.{value_at};
@@ -36,7 +37,7 @@ pub(crate) struct Rows {
 fn weigh(link: &Link, at: &Fraction, potentials: &[i128]) -> ReducedCost
     requires from { link.now.from < length potentials.now }
     requires to { link.now.to < length potentials.now }
-    requires delay { IsWithin 4000000000 link.now.delay }
+    requires delay { IsWithin MOST_LINK_DELAY link.now.delay }
     requires cycles { link.now.cycles ≤ 1 }
     requires cycle { IsShortCycle at.now }
     requires small { (node : ℕ) → node < length potentials.now →
