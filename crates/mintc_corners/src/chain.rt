@@ -72,13 +72,13 @@ fn corner_member_of(
     })
 }
 
-/// A search for paths in each corner.
-fn all_finders(alloc: Global, systems: &[System]) -> Result<Vec<Finder>, OutOfMemory>
+/// A search for so many paths in each corner.
+fn all_finders(alloc: Global, systems: &[System], paths: usize) -> Result<Vec<Finder>, OutOfMemory>
     ensures { IfOk result (λ finders. length finders.items ≡ length systems.now) }
 {
     let mut finders = Vec::new(alloc);
     for system in systems {
-        finders.push(Finder::new(alloc, system)?)?;
+        finders.push(Finder::new(alloc, system, paths)?)?;
     }
     Ok(finders)
 }
@@ -99,7 +99,7 @@ pub(crate) fn members(
     requires chain { All (λ e. e < length (joined_links systems.now)) chain.now }
     ensures { IfOk result (StandForAll systems.now chain.now) }
 {
-    let mut finders = all_finders(alloc, systems)?;
+    let mut finders = all_finders(alloc, systems, chain.len())?;
     let mut members = Vec::new(alloc);
     for number in chain {
         let member = corner_member_of(alloc, systems, lists, &mut finders, *number)?;

@@ -70,7 +70,7 @@ pub fn members(
     requires chain { All (λ e. e < length links.now) chain.now }
     ensures { IfOk result (StandForAll system.now links.now chain.now) }
 {
-    let mut finder = Finder::new(alloc, system)?;
+    let mut finder = Finder::new(alloc, system, chain.len())?;
     let mut members = Vec::new(alloc);
     for number in chain {
         let member = member_of(alloc, system, &mut finder, &links[*number as usize])?;

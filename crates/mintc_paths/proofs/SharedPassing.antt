@@ -7,14 +7,13 @@ use Rattle.mintc_timing.specs.Limits.{IsArc, IsDelay, IsDesign}
 use Rattle.mintc_timing.specs.Order.{IsOrder}
 use Rattle.mintc_timing.specs.Paths.{arc_at}
 use Rattle.mintc_lanes.specs.Lanes.{lane_at, joined, AreJoined}
-use Rattle.mintc_bitset.specs.BitSet.{IsIn}
 use Rattle.mintc_paths_sums.specs.declared.sums.Sums.{Sums}
 use Rattle.mintc_paths_sums.specs.declared.sums.TheConstants.{NO_SUMS}
 use Rattle.mintc_paths_sums.specs.Sums.{sums_at, IsAlike, IsBounded}
 use Rattle.mintc_paths_sums.specs.Placed.{placed}
 use Rattle.mintc_paths_sums.proofs.SharedPlaced.{length-placed}
 use Rattle.mintc_paths_sums.proofs.SharedNoSums.{none_at}
-use Rattle.mintc_paths.specs.Worklist.{IsAwake}
+use Rattle.mintc_paths.specs.Worklist.{IsOn, IsAwake}
 use Rattle.mintc_paths.specs.declared.worklist.Worklist.{Worklist}
 use Rattle.mintc_paths.specs.declared.rows.ArcSequence.{ArcSequence}
 use Rattle.mintc_paths.specs.Sums.{moved, IsSequence, AreMarked, AreSums}
@@ -119,7 +118,7 @@ module _ (design : Design) (order : List ℕ) (is_order : IsOrder design.arcs or
     module _ (reached : List Bool) (marked : AreMarked sums reached) where
       -- Where none is awake from one place on and before the next, no arc there leaves a row that is reached.
       pub passed_next : (awake : Worklist) (k next : ℕ) → k ≤ next → k ≤ length order → IsAwake sequence.along.items k reached awake →
-          ((other : ℕ) → k ≤ other → other < next → IsIn awake.places.words.items other → ⊥) →
+          ((other : ℕ) → k ≤ other → other < next → IsOn awake other → ⊥) →
           AreSums design.arcs order k first lanes (placed rows sums) → AreSums design.arcs order (min next (length order)) first lanes (placed rows sums)
       passed_next awake k next low high is_awake none h = climb (λ x. AreSums design.arcs order x first lanes (placed rows sums)) k (min next (length order)) (omega arith) step h
         where

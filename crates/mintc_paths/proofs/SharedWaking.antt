@@ -1,9 +1,8 @@
 -- The arcs that are awake along a sequence.
 use Rattle.std.proofs.Common.{◌≡◌, ◌≢◌, ℕ, ◌≤◌, ◌+◌, Bool, false, List, length, get_or, arith}
-use Rattle.mintc_bitset.specs.BitSet.{IsIn}
 use Rattle.mintc_timing.specs.declared.parts.TimingArc.{TimingArc}
 use Rattle.mintc_timing.specs.Paths.{arc_at}
-use Rattle.mintc_paths.specs.Worklist.{IsReady, IsAwake}
+use Rattle.mintc_paths.specs.Worklist.{IsReady, IsOn, IsAwake}
 use Rattle.mintc_paths.specs.declared.worklist.Worklist.{Worklist}
 
 -- what is awake from a place on is so from a later one on
@@ -12,7 +11,7 @@ IsAwake-later along k m reached awake low h = record { ready = h.ready; each = �
 
 -- An arc is no longer awake, and the arcs after it are.
 pub IsAwake-next : (along : List TimingArc) (place : ℕ) (reached : List Bool) (old new : Worklist) →
-    length new.places.words.items ≡ length old.places.words.items → ((other : ℕ) → other ≢ place → IsIn old.places.words.items other → IsIn new.places.words.items other) →
+    length new.places.words.items ≡ length old.places.words.items → ((other : ℕ) → other ≢ place → IsOn old other → IsOn new other) →
     IsAwake along place reached old → IsAwake along (place + 1) reached new
 IsAwake-next along place reached old new count others h = record {
   ready = record {

@@ -1,33 +1,95 @@
-//! Paths of many pairs, one after another. The memory of the search is taken once, and each path is searched among
-//! the rows between its two elements. Nothing is promised of the search but that it ends: what it finds is checked,
+//! Paths of some pairs, one after another. The memory of the search is taken once. Where the pairs are many, each path
+//! is searched among the rows between its two elements, where they are few, among all arcs. Nothing is promised of the search but that it ends: what it finds is checked,
 //! and where it isn't the path that is wanted, that one is found by a sweep over all arcs, as `path_of` does.
 ghost use Rattle.std.specs.Prelude.{◌≡◌, ◌<◌, ◌^◌, IfOk};
 ghost use Rattle.mintc_timing.specs.Paths.{IsPath, input_of, greatest_delay, least_delay};
 ghost use Rattle.mintc_paths.specs.Finding.{IsDelayOf, IsListedWith};
 
 use crate::listed::{Wanted, is_listed_with};
-use crate::reached::{Arrival, Reached};
+use crate::reached::{Reached, START};
 use crate::route::best_path;
 use crate::successors::Successors;
-use crate::trace::Extreme;
+use crate::trace::{Extreme, delay_at};
 use mintc_text::{Numbers, OutOfMemory};
 use mintc_timing::{System, TimingArc};
 use std::alloc::{AllocError, Global};
 
+/// How many paths are asked for at least, so that steps in rows cost less than sweeps over all arcs.
+const MANY: usize = 5;
+
 /// A search for paths in a system.
 #[derive(Drop)]
 pub struct Finder {
-    steps: Successors,
+    /// The steps in rows, where many paths are asked for. Else each bit is a row, and a search is a sweep over all arcs.
+    steps: Option<Successors>,
     reached: Reached,
     /// How many of the paths that were asked for the search hasn't found.
     missed: u64,
 }
 
+/// Takes the steps from a row to the rows up to the last one.
+fn leave(reached: &mut Reached, steps: &Successors, extreme: Extreme, row: u32, last: u32) {
+    let Some(arrival) = reached.at(row) else {
+        return;
+    };
+    for step in steps.from_row(row) {
+        if step.row <= last {
+            let next = arrival.led_on(step.delay(extreme), step.arc);
+            reached.bring(extreme, step.row, next);
+        }
+    }
+}
+
+/// Leaves the marked rows of a word, one after another, and takes their marks away.
+fn leave_word(reached: &mut Reached, steps: &Successors, extreme: Extreme, word: u32, last: u32)
+    requires { word < 2 ^ 26 }
+{
+    let mut place = 0;
+    while let Some(next) = reached.next(word, place) {
+        leave(reached, steps, extreme, 64 * word + next, last);
+        place = next + 1;
+    }
+    reached.clear(word);
+}
+
+/// Finds the best sums from one bit to the bits whose rows aren't after that of another one.
+fn sweep_rows(reached: &mut Reached, steps: &Successors, extreme: Extreme, from: u32, to: u32) {
+    let (first, last) = (steps.row_of(from), steps.row_of(to));
+    if last as usize >= reached.rows() {
+        return;
+    }
+    reached.bring(extreme, first, START);
+    for word in first / 64..last / 64 + 1 {
+        leave_word(reached, steps, extreme, word, last);
+    }
+}
+
+/// Finds the best sums from one bit to all others.
+fn sweep_arcs(reached: &mut Reached, extreme: Extreme, system: &System, from: u32) {
+    reached.clear_all();
+    reached.bring(extreme, from, START);
+    for number in system.order().arcs().items() {
+        let Some(arc) = system.flat().arcs().get(*number as usize) else {
+            continue;
+        };
+        if let Some(arrival) = reached.marked(arc.from) {
+            let delay = u32::try_from(delay_at(extreme, arc)).unwrap_or(0);
+            reached.bring(extreme, arc.to, arrival.led_on(delay, *number));
+        }
+    }
+}
+
 impl Finder {
-    /// A search over the arcs of a system, which is to be that of each call.
-    pub fn new(alloc: Global, system: &System) -> Result<Finder, OutOfMemory> {
-        let steps = Successors::new(alloc, system.flat(), system.order())?;
-        let reached = Reached::new(alloc, steps.given as usize)?;
+    /// A search for so many paths in a system, which is to be that of each call.
+    pub fn new(alloc: Global, system: &System, paths: usize) -> Result<Finder, OutOfMemory> {
+        let mut steps = None;
+        let mut rows = system.flat().bit_count();
+        if paths >= MANY {
+            let in_rows = Successors::new(alloc, system.flat(), system.order())?;
+            rows = in_rows.given as usize;
+            steps = Some(in_rows);
+        }
+        let reached = Reached::new(alloc, rows)?;
         Ok(Finder {
             steps,
             reached,
@@ -35,48 +97,25 @@ impl Finder {
         })
     }
 
-    /// Takes the steps from a row to the rows up to the last one.
-    fn leave(&mut self, extreme: Extreme, row: u32, last: u32) {
-        let Some(arrival) = self.reached.at(row) else {
-            return;
-        };
-        for step in self.steps.from_row(row) {
-            if step.row <= last {
-                let sum = arrival.sum.wrapping_add(step.delay(extreme));
-                let next = Arrival { sum, arc: step.arc };
-                self.reached.bring(extreme, step.row, next);
-            }
+    /// Finds the best sums from one bit to those on paths to another one.
+    fn sweep(&mut self, extreme: Extreme, system: &System, from: u32, to: u32) {
+        match &self.steps {
+            Some(steps) => sweep_rows(&mut self.reached, steps, extreme, from, to),
+            None => sweep_arcs(&mut self.reached, extreme, system, from),
         }
     }
 
-    /// Leaves the marked rows of a word, one after another, and takes their marks away.
-    fn leave_word(&mut self, extreme: Extreme, word: u32, last: u32)
-        requires { word < 2 ^ 26 }
-    {
-        let mut place = 0;
-        while let Some(next) = self.reached.next(word, place) {
-            self.leave(extreme, 64 * word + next, last);
-            place = next + 1;
-        }
-        self.reached.clear(word);
-    }
-
-    /// Finds the best sums from one bit to the bits whose rows aren't after that of another one.
-    fn sweep(&mut self, extreme: Extreme, from: u32, to: u32) {
-        let (first, last) = (self.steps.row_of(from), self.steps.row_of(to));
-        if last as usize >= self.reached.rows() {
-            return;
-        }
-        self.reached
-            .bring(extreme, first, Arrival { sum: 0, arc: 0 });
-        for word in first / 64..last / 64 + 1 {
-            self.leave_word(extreme, word, last);
+    /// The row of a bit.
+    fn row_of(&self, bit: u32) -> u32 {
+        match &self.steps {
+            Some(steps) => steps.row_of(bit),
+            None => bit,
         }
     }
 
     /// The arc by which the best sum to a bit comes.
     fn last_arc(&self, bit: u32) -> Option<u32> {
-        let arrival = self.reached.at(self.steps.row_of(bit))?;
+        let arrival = self.reached.at(self.row_of(bit))?;
         Some(arrival.arc)
     }
 
@@ -114,11 +153,12 @@ impl Finder {
         &mut self,
         alloc: Global,
         extreme: Extreme,
-        arcs: &[TimingArc],
+        system: &System,
         start: u32,
         end: u32,
     ) -> Result<Vec<u32>, AllocError> {
-        self.sweep(extreme, start, end);
+        let arcs = system.flat().arcs();
+        self.sweep(extreme, system, start, end);
         let count = self.count_back(arcs, end, start);
         let mut path = vec![in alloc; 0; count]?;
         self.trace_back(arcs, end, &mut path);
@@ -135,9 +175,8 @@ impl Finder {
         requires { IsDelayOf wanted.extreme system.now.pairs wanted.from wanted.to wanted.delay }
         ensures { IfOk result (IsListedWith wanted.extreme system.now.flat.arcs wanted.from wanted.to wanted.delay) }
     {
-        let arcs = system.flat().arcs();
         let (start, end) = (2 * wanted.from + 1, 2 * wanted.to);
-        let path = self.search(alloc, wanted.extreme, arcs, start, end)?;
+        let path = self.search(alloc, wanted.extreme, system, start, end)?;
         if is_listed_with(system.flat(), &path, wanted) {
             return Ok(Numbers::new(path));
         }
@@ -152,7 +191,7 @@ impl Finder {
     }
 
     /// The arcs of a listed path from one element to another with the greatest sum, which is `delay`, in
-    /// femtoseconds. It is as `path_of`, and takes time for the arcs between the two elements alone.
+    /// femtoseconds. It is as `path_of`; where many are asked for it takes time for the arcs between the two elements alone.
     pub fn path_of(
         &mut self,
         alloc: Global,
@@ -175,7 +214,7 @@ impl Finder {
     }
 
     /// The arcs of a listed path from one element to another with the least sum, which is `delay`, in femtoseconds.
-    /// It is as `shortest_path_of`, and takes time for the arcs between the two elements alone.
+    /// It is as `shortest_path_of`; where many are asked for it takes time for the arcs between the two elements alone.
     pub fn shortest_path_of(
         &mut self,
         alloc: Global,

@@ -11,7 +11,18 @@ pub struct Arrival {
     pub arc: u32,
 }
 
+/// The arrival at the bit where paths begin.
+pub const START: Arrival = Arrival { sum: 0, arc: 0 };
+
 impl Arrival {
+    /// The arrival where an arc ends that begins here.
+    pub fn led_on(self, delay: u32, arc: u32) -> Arrival {
+        Arrival {
+            sum: self.sum.wrapping_add(delay),
+            arc,
+        }
+    }
+
     /// Whether it is better than another one; of two with one sum, the one by the arc of the lesser number is.
     fn is_better(self, extreme: Extreme, other: Arrival) -> bool {
         if self.sum == other.sum {
@@ -38,7 +49,7 @@ impl Reached {
     pub fn new(alloc: Global, rows: usize) -> Result<Reached, AllocError> {
         Ok(Reached {
             marks: vec![in alloc; 0; rows / 64 + 1]?,
-            arrivals: vec![in alloc; Arrival { sum: 0, arc: 0 }; rows]?,
+            arrivals: vec![in alloc; START; rows]?,
         })
     }
 
@@ -79,6 +90,20 @@ impl Reached {
         if (word as usize) < self.marks.len() {
             self.marks[word as usize] = 0;
         }
+    }
+
+    /// Takes away all marks.
+    pub fn clear_all(&mut self) {
+        self.marks.fill(0);
+    }
+
+    /// The arrival at a row that is marked.
+    pub fn marked(&self, row: u32) -> Option<Arrival> {
+        let word = self.marks.get(row as usize / 64)?;
+        if *word & 1 << (row % 64) == 0 {
+            return None;
+        }
+        self.at(row)
     }
 
     /// The arrival at a row.

@@ -53,6 +53,7 @@ fn clear(
     ensures awake { OnOk result (IsAwake sequence.now.along.items 0 reached.new awake.new) }
 {
     wipe(sums, reached);
+    awake.renew(sequence.along.len());
     for lane in 0..lanes {
         let row = sequence.rows.of_bits[2 * (first as usize + lane) + 1];
         sums.begin(row, lane)?;
@@ -127,12 +128,12 @@ pub(crate) fn fill(
         (AreExtremes of.design first lanes (placed sequence.now.rows.of_bits.items sums.new)) }
 {
     clear(sums, reached, awake, sequence, first, lanes)?;
-    let mut place = awake.places.next(0);
+    let mut place = awake.next(0);
     while place < sequence.along.len() {
-        awake.places.remove(place);
+        awake.pass(place);
         let arc = sequence.along[place];
         carry(sums, reached, awake, sequence, arc)?;
-        place = awake.places.next(place + 1);
+        place = awake.next(place + 1);
     }
     Ok(())
 }

@@ -2,14 +2,13 @@
 use Rattle.std.proofs.Common.{◌≡◌, ◌≢◌, ◌<◌, ◌≤◌, ◌+◌, ◌*◌, ◌%◌, ℕ, min, Bool, true, false, List, length, get_or, set, length-set, get_or-set_same, get_or-set_other, ⊎_elim, arith, refl, sym, ◌∙◌, ap, subst}
 use Rattle.std.proofs.lemmas.Bool.{cases_eq}
 use Rattle.std.proofs.lemmas.Nat.Bits.{bit_at-zero}
-use Rattle.mintc_bitset.specs.BitSet.{IsIn}
 use Rattle.mintc_timing.specs.declared.parts.TimingArc.{TimingArc}
 use Rattle.mintc_timing.specs.Design.{Design}
 use Rattle.mintc_timing.specs.Limits.{IsDesign}
 use Rattle.mintc_timing.specs.Order.{IsOrder}
 use Rattle.mintc_timing.specs.Paths.{arc_at, output_of}
 use Rattle.mintc_paths_sums.specs.Placed.{row_of}
-use Rattle.mintc_paths.specs.Worklist.{IsAwake}
+use Rattle.mintc_paths.specs.Worklist.{IsOn, IsAwake}
 use Rattle.mintc_paths.specs.declared.worklist.Worklist.{Worklist}
 use Rattle.mintc_paths_count.specs.declared.marks.Marks.{Marks}
 use Rattle.mintc_paths_count.specs.declared.marks.TheConstants.{NO_MARKS}
@@ -96,7 +95,7 @@ module _ (design : Design) (order : List ℕ) (is_order : IsOrder design.arcs or
   module _ (marks : List Marks) (count : length marks ≡ n) (reached : List Bool) (marked : AreMarksReached marks reached) where
     -- Where none is awake from one place on and before the next, no arc there leaves a row that is reached.
     pub unmarked_next : (awake : Worklist) (k next : ℕ) → k ≤ next → k ≤ length order → IsAwake sequence.along.items k reached awake →
-        ((other : ℕ) → k ≤ other → other < next → IsIn awake.places.words.items other → ⊥) → Along k marks → Along (min next (length order)) marks
+        ((other : ℕ) → k ≤ other → other < next → IsOn awake other → ⊥) → Along k marks → Along (min next (length order)) marks
     unmarked_next awake k next low high is_awake none h = climb (λ x. Along x marks) k (min next (length order)) (omega arith) step h
       where
         step : (i : ℕ) → k ≤ i → i < min next (length order) → Along i marks → Along (i + 1) marks

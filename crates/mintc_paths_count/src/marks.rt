@@ -81,6 +81,7 @@ fn begin(
     ensures awake { IsAwake sequence.now.along.items 0 reached.new awake.new }
 {
     wipe(marks, reached);
+    awake.renew(sequence.along.len());
     for lane in 0..lanes {
         let row = sequence.rows.of_bits[2 * (first as usize + lane) + 1];
         set(marks, row as usize, lane);
@@ -148,12 +149,12 @@ pub(crate) fn mark_all(
         (length of.order) sequence.now.rows.of_bits.items first lanes marks.new }
 {
     begin(marks, reached, awake, sequence, first, lanes);
-    let mut place = awake.places.next(0);
+    let mut place = awake.next(0);
     while place < sequence.along.len() {
-        awake.places.remove(place);
+        awake.pass(place);
         let arc = sequence.along[place];
         carry(marks, reached, awake, sequence, arc);
-        place = awake.places.next(place + 1);
+        place = awake.next(place + 1);
     }
 }
 

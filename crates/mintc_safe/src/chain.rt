@@ -93,7 +93,7 @@ pub(crate) fn members(
     requires kept { IsTiming system.now.flat system.now.order system.now.pairs }
     ensures { IfOk result (StandForAll system.now links.now chain.now) }
 {
-    let mut finder = Finder::new(alloc, system)?;
+    let mut finder = Finder::new(alloc, system, chain.len())?;
     let mut members = Vec::new(alloc);
     for number in chain {
         let member = safe_member_of(alloc, system, &mut finder, &links[*number as usize])?;

@@ -269,12 +269,23 @@ fn are_found(alloc: Global, finder: &mut Finder, system: &System) -> bool {
     true
 }
 
-/// Whether the search by itself finds both paths for each pair of a system.
-fn are_all_searched(alloc: Global, system: &System) -> bool {
-    let Ok(mut finder) = Finder::new(alloc, system) else {
+/// So few paths are asked for that a search is a sweep over all arcs.
+const FEW: usize = 1;
+
+/// So many paths are asked for that steps stand in rows.
+const MANY: usize = 1000;
+
+/// Whether the search by itself finds both paths for each pair of a system, where so many are asked for.
+fn are_searched(alloc: Global, system: &System, paths: usize) -> bool {
+    let Ok(mut finder) = Finder::new(alloc, system, paths) else {
         return false;
     };
     are_found(alloc, &mut finder, system) && finder.missed() == 0
+}
+
+/// The same, one way and the other.
+fn are_all_searched(alloc: Global, system: &System) -> bool {
+    are_searched(alloc, system, FEW) && are_searched(alloc, system, MANY)
 }
 
 /// Whether the search by itself finds both paths for each pair of a case.
@@ -308,13 +319,14 @@ const TIE_TURNED: Case = Case {
     arcs: &["n0 d1 2 2", "n1 d1 2 2", "q0 n1 1 1", "q0 n0 1 1"],
 };
 
-/// Whether a finder takes these arcs for the slowest and for the fastest path of the one pair of a system.
-fn takes(alloc: Global, system: &System, arcs: &[u32]) -> bool {
+/// Whether a finder of so many paths takes these arcs for the slowest and for the fastest path of the one pair of a
+/// system.
+fn takes(alloc: Global, system: &System, arcs: &[u32], paths: usize) -> bool {
     if system.pairs().len() != 1 {
         return false;
     }
     let pair = system.pairs()[0];
-    let Ok(mut finder) = Finder::new(alloc, system) else {
+    let Ok(mut finder) = Finder::new(alloc, system, paths) else {
         return false;
     };
     let Ok(slowest) = finder.path_of(alloc, system, pair.from, pair.to, pair.max) else {
@@ -326,11 +338,17 @@ fn takes(alloc: Global, system: &System, arcs: &[u32]) -> bool {
     }
 }
 
-/// A finder takes these arcs for the one pair of a case.
+/// A finder takes these arcs for the one pair of a case, one way and the other.
 fn is_taken(rt: &impl Abort, alloc: Global, case: &Case, arcs: &[u32]) {
-    match system_of(rt, alloc, case) {
-        Some(system) => assert!(rt; takes(alloc, &system, arcs), "{}", case.name),
-        None => panic!(rt; "refused"),
+    let Some(system) = system_of(rt, alloc, case) else {
+        panic!(rt; "refused");
+    };
+    for paths in [FEW, MANY] {
+        assert!(rt;
+            takes(alloc, &system, arcs, paths),
+            "{}, {paths} paths",
+            case.name
+        );
     }
 }
 
@@ -399,19 +417,21 @@ fn finds_all(rt: &impl Abort, alloc: Global, finder: &mut Finder) {
     }
 }
 
-/// A finder of the system of a case.
-fn finder_of(rt: &impl Abort, alloc: Global, case: &Case) -> Option<Finder> {
+/// A finder of so many paths in the system of a case.
+fn finder_of(rt: &impl Abort, alloc: Global, case: &Case, paths: usize) -> Option<Finder> {
     match system_of(rt, alloc, case) {
-        Some(system) => Finder::new(alloc, &system).ok(),
+        Some(system) => Finder::new(alloc, &system, paths).ok(),
         None => None,
     }
 }
 
 #[test]
 fn finders_of_another_system_find_the_paths(rt: HostRuntime) {
-    match finder_of(&rt, rt.alloc(), &NINE) {
-        Some(mut finder) => finds_all(&rt, rt.alloc(), &mut finder),
-        None => panic!(rt; "no finder"),
+    for paths in [FEW, MANY] {
+        match finder_of(&rt, rt.alloc(), &NINE, paths) {
+            Some(mut finder) => finds_all(&rt, rt.alloc(), &mut finder),
+            None => panic!(rt; "no finder"),
+        }
     }
 }
 

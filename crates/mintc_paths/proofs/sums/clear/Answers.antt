@@ -11,7 +11,7 @@ pub loop-lane-init : goal.loop-lane-init
 loop-lane-init c = record {
   begun = λ arcs order. AreBegun-placed_none arcs order c.args.first (length c.args.sums.now) c.args.sequence.now.rows c.requires.rows c.wipe.new.sums c.wipe.ensures.count c.wipe.ensures.none;
   marked = c.wipe.ensures.marked;
-  awake = IsAwake-none c.args.sequence.now.along.items 0 c.wipe.new.reached c.args.awake.now c.requires.ready c.wipe.ensures.off;
+  awake = IsAwake-none c.args.sequence.now.along.items 0 c.wipe.new.reached c.renew.new.self c.renew.ensures c.wipe.ensures.off;
   count = c.wipe.ensures.count;
 }
 

@@ -62,7 +62,7 @@ loop-place-preserved g c =
     let h = c.in_ok-carry.ensures in
     let carried : IsCarried c.index-arc.result.now c.loop-place.sums c.carry.new.sums = record { others = h.others; greatest = h.greatest; least = h.least; bounded = h.bounded } in
     let awake : IsAwake along (i + 1) c.carry.new.reached c.carry.new.awake = h.awake (i + 1)
-    (IsAwake-next along i c.loop-place.reached c.loop-place.awake _ c.remove.ensures.count c.remove.ensures.others c.loop-place.invariant.awake) in
+    (IsAwake-next along i c.loop-place.reached c.loop-place.awake _ c.pass.ensures.count c.pass.ensures.others c.loop-place.invariant.awake) in
     let same : length c.carry.new.sums ≡ length c.args.sums.now = h.count ∙ c.loop-place.invariant.count in
     record {
       sums_so_far = passed_next g.of.design g.of.order c.requires.0.is_ordered.order c.requires.0.is_ordered.kept c.args.sequence.now (length c.args.sums.now) c.requires.0.is_sequence c.requires.0.bits
@@ -87,7 +87,7 @@ returns-clause-extremes g c =
 
 pub next-place-requires-in-loop-place : goal.next-place-requires-in-loop-place
 next-place-requires-in-loop-place g c =
-    let rest = IsAwake-next c.args.sequence.now.along.items c.loop-place.place c.loop-place.reached c.loop-place.awake _ c.remove.ensures.count c.remove.ensures.others c.loop-place.invariant.awake in
+    let rest = IsAwake-next c.args.sequence.now.along.items c.loop-place.place c.loop-place.reached c.loop-place.awake _ c.pass.ensures.count c.pass.ensures.others c.loop-place.invariant.awake in
     (c.in_ok-carry.ensures.awake (c.loop-place.place + 1) rest).ready.few
 
 pub carry-requires-clause-from : goal.carry-requires-clause-from

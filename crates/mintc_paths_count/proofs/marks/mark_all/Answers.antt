@@ -30,7 +30,7 @@ arc_is g c = c.index-arc.ensures ∙ get_or_default c.args.sequence.now.along.it
 
 pub next-place-requires-in-loop-place : goal.next-place-requires-in-loop-place
 next-place-requires-in-loop-place g c =
-    let rest = IsAwake-next c.args.sequence.now.along.items c.loop-place.place c.loop-place.reached c.loop-place.awake _ c.remove.ensures.count c.remove.ensures.others c.loop-place.invariant.awake in
+    let rest = IsAwake-next c.args.sequence.now.along.items c.loop-place.place c.loop-place.reached c.loop-place.awake _ c.pass.ensures.count c.pass.ensures.others c.loop-place.invariant.awake in
     (c.carry.ensures.awake (c.loop-place.place + 1) rest).ready.few
 
 pub loop-place-preserved : goal.loop-place-preserved
@@ -45,7 +45,7 @@ loop-place-preserved g c =
     let h = c.carry.ensures in
     let carried : AreCarriedMarks c.index-arc.result.now c.loop-place.marks c.carry.new.marks = record { others = h.others; joined = h.joined } in
     let awake : IsAwake along (i + 1) c.carry.new.reached c.carry.new.awake = h.awake (i + 1)
-    (IsAwake-next along i c.loop-place.reached c.loop-place.awake _ c.remove.ensures.count c.remove.ensures.others c.loop-place.invariant.awake) in
+    (IsAwake-next along i c.loop-place.reached c.loop-place.awake _ c.pass.ensures.count c.pass.ensures.others c.loop-place.invariant.awake) in
     let same : length c.carry.new.marks ≡ n = c.carry.auto.marks ∙ c.loop-place.invariant.count in
     record {
       along = unmarked_next g.of.design g.of.order c.requires.0.is_ordered.order c.requires.0.is_ordered.kept c.args.sequence.now n c.requires.0.is_sequence c.requires.0.bits

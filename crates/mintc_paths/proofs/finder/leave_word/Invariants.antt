@@ -1,5 +1,5 @@
 use Rattle.std.proofs.Common.{◌-◌}
-use Rattle.mintc_paths.proofs.finder.Finder.leave_word.Given as goal
+use Rattle.mintc_paths.proofs.finder.leave_word.Given as goal
 
 abbrev pub invariant-loop-next : goal.invariant-loop-next
 invariant-loop-next l = Unit {0}
