@@ -47,6 +47,23 @@ fn raise_all(sums: &mut [i64], flat: &Flat, order: &Order, sequence: &ArcSequenc
     }
 }
 
+/// The same, at the bits along the order.
+#[tactic(auto, using(mintc_timing::proofs::SharedOrdered::inside))]
+fn raise_in_order(sums: &mut [i64], flat: &Flat, order: &Order)
+    requires design { IsDesign flat.now }
+    requires order { IsOrder flat.now.arcs order.now }
+    requires bits { length sums.old ≡ 2 * length flat.now.elements + length flat.now.inner }
+    requires none { AreCarried flat.now.arcs order.now 0 sums.old }
+    ensures { AreCarried flat.now.arcs order.now (length order.now) sums.new }
+{
+    let (arcs, numbers) = (flat.arcs(), order.arcs().items());
+    for place in 0..numbers.len() {
+        let number = numbers[place];
+        let arc = arcs[number as usize];
+        raise(sums, arc);
+    }
+}
+
 /// Whether no sum is above the limit.
 fn are_within(sums: &[i64]) -> bool
     ensures { OnTrue result (All (λ z. z ≤ℤ MOST_DELAY) sums.now) }
@@ -85,4 +102,15 @@ pub fn bound_is_within_limit(
     ensures { IfOk result (λ short. OnTrue short (ArePathsShort flat.now)) }
 {
     runs_are_within_limit(alloc, flat, order, sequence)
+}
+
+/// The same, without a sequence: it takes one look along the order.
+#[tactic(auto, using(crate::proofs::Plain::AreCarried_zeros))]
+pub fn order_is_within_limit(alloc: Global, flat: &Flat, order: &Order) -> Result<bool, AllocError>
+    requires { IsOrder flat.now.arcs order.now }
+    ensures { IfOk result (λ short. OnTrue short (ArePathsShort flat.now)) }
+{
+    let mut sums = vec![in alloc; 0; flat.bit_count()]?;
+    raise_in_order(&mut sums, flat, order);
+    Ok(are_within(&sums))
 }

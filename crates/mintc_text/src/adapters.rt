@@ -5,6 +5,7 @@ ghost use Rattle.mintc_text.specs.Outside.{faults_after};
 use crate::{Failed, Shelf, ShelfError, Sink};
 use std::alloc::{AllocError, Global};
 use std::fs;
+use std::fs::OpenFile;
 use std::io::Read;
 use std::marker::Model;
 use std::rt::Files;
@@ -27,14 +28,34 @@ impl<'a, R: Files> Model for FolderShelf<'a, R> {
     ghost view = { λ s. s.faults };
 }
 
-/// Room for `count` bytes more in a list that takes at most `most`: twice its bytes where they are enough, but no more
-/// than `most`, so that a file at its limit has no buffer of twice its size.
+/// How many bytes a file says that it has, at most so many, and 0 where it says nothing.
+fn size_of<F: OpenFile>(file: &F, most: usize) -> usize {
+    match file.metadata() {
+        Ok(told) => told.len().min(most as u64) as usize,
+        Err(_) => 0,
+    }
+}
+
+/// No bytes, with room for so many where there is memory for them.
+fn with_room(alloc: Global, size: usize) -> Vec<u8>
+    ensures { length result.items ≡ 0 }
+{
+    let mut bytes = Vec::new(alloc);
+    let _ = bytes.reserve_exact(size);
+    bytes
+}
+
+/// Room for `count` bytes more in a list that takes at most `most`. It grows to twice its bytes, but to no more than
+/// `most`, so that a file at its limit has no buffer of twice its size.
 fn make_room(bytes: &mut Vec<u8>, count: usize, most: usize) -> Result<(), AllocError>
     requires most { vec_len bytes.old + count ≤ most }
     ensures kept { bytes.new.items ≡ bytes.old.items }
     ensures room { OnOk result (vec_len bytes.new + count ≤ vec_capacity bytes.new) }
 {
     let len = bytes.len();
+    if count <= bytes.capacity() - len {
+        return Ok(());
+    }
     bytes.reserve_exact(len.max(count).min(most - len))
 }
 
@@ -42,7 +63,15 @@ fn make_room(bytes: &mut Vec<u8>, count: usize, most: usize) -> Result<(), Alloc
 pub fn read_front<F: Read>(file: &mut F, alloc: Global, most: usize) -> Result<Vec<u8>, ShelfError>
     ensures { IfOk result (λ v. length v.items ≤ most) }
 {
-    let mut bytes = Vec::new(alloc);
+    read_into(file, Vec::new(alloc), most)
+}
+
+/// The same, in a list that has room.
+fn read_into<F: Read>(file: &mut F, room: Vec<u8>, most: usize) -> Result<Vec<u8>, ShelfError>
+    requires { length room.items ≤ most }
+    ensures { IfOk result (λ v. length v.items ≤ most) }
+{
+    let mut bytes = room;
     let mut piece = [0u8; PIECE];
     while bytes.len() < most {
         let room = (most - bytes.len()).min(PIECE);
@@ -72,7 +101,10 @@ fn read_file<R: Files>(
     ensures { IfOk result (λ v. length v.items ≤ most) }
 {
     match fs::open(runtime, name) {
-        Ok(mut file) => read_front(&mut file, alloc, most),
+        Ok(mut file) => {
+            let room = with_room(alloc, size_of(&file, most));
+            read_into(&mut file, room, most)
+        }
         Err(_) => Err(ShelfError::Failed),
     }
 }
