@@ -24,4 +24,4 @@ pub use laws::{
     bad_cells_are_determined, cells_are_determined, cells_are_not_refused, cells_keep_rules,
     texts_have_cells_or_refusals,
 };
-pub use read::read_cells;
+pub use read::{cells_of_document, read_cells};

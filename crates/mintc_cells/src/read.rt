@@ -132,6 +132,15 @@ fn read_document(alloc: Global, document: &Table) -> Result<Vec<(Name, Cell)>, S
     }
 }
 
+/// The cells that a document describes. Refused as its text is.
+pub fn cells_of_document(alloc: Global, document: &Table) -> Result<Cells, Stop>
+    ensures { MatchResult result (AreInTable (table_view document.now))
+        (StopsAt (IsBadCellBy (IsBadTable (table_view document.now)))) }
+{
+    let entries = read_document(alloc, document)?;
+    Ok(Cells::new(alloc, entries)?)
+}
+
 /// The cells that a text describes.
 fn read_text(alloc: Global, text: &[u8]) -> Result<Vec<(Name, Cell)>, Stop>
     ensures value { MatchResult result (λ cells. AreCells text.now cells.items)

@@ -6,7 +6,7 @@ ghost use Rattle.mintc_cells.specs.Rules.{outputs_of, inputs_of};
 ghost use Rattle.mintc_liberty_tokens.specs.Statements.{front, none};
 ghost use Rattle.mintc_liberty_cell.specs.Meaning.{groups};
 ghost use Rattle.mintc_senses.specs.Senses.{sense_in, senses_by, senses_of, sense_at, library_inside};
-ghost use Rattle.mintc_senses.specs.Seen.{inside_seen, rows_seen};
+ghost use Rattle.mintc_senses.specs.Seen.{inside_seen, rows_seen, senses_seen};
 
 use crate::rows::row;
 use crate::texts::{insides, library, no_statements};
@@ -129,10 +129,17 @@ pub fn read_senses(alloc: Global, text: &[u8], cells: &Cells) -> Result<Senses, 
         let next = senses_at(alloc, places, cells, number)?;
         push_cell(&mut all, next)?;
     }
-    Ok(Senses { cells: all })
+    Ok(Senses::new(all))
 }
 
 impl Senses {
+    /// These senses: for each cell, for each output, those of all pins that are none.
+    pub fn new(cells: Vec<Vec<Vec<Transitions>>>) -> Senses
+        ensures { result ≡ senses_seen cells.items }
+    {
+        Senses { cells }
+    }
+
     /// Which edges of an input of a cell may make which edges of an output, which is counted among the cell's
     /// outputs; all where there is no such pin.
     pub fn sense(&self, cell: u32, input: u32, output: u32) -> Transitions
