@@ -17,6 +17,17 @@ use std::alloc::{AllocError, Global};
 /// How many paths are asked for at least, so that steps in rows cost less than sweeps over all arcs.
 const MANY: usize = 5;
 
+/// How many arcs are gathered at a time.
+const BLOCK: usize = 64;
+
+/// An arc from a bit to itself, which brings nothing.
+const NO_ARC: TimingArc = TimingArc {
+    from: 0,
+    to: 0,
+    min: 0,
+    max: 0,
+};
+
 /// A search for paths in a system.
 #[derive(Drop)]
 pub struct Finder {
@@ -64,18 +75,32 @@ fn sweep_rows(reached: &mut Reached, steps: &Successors, extreme: Extreme, from:
     }
 }
 
+/// Takes an arc, of this number, where the bit that it leaves is reached.
+fn take(reached: &mut Reached, extreme: Extreme, arc: &TimingArc, number: u32) {
+    if let Some(arrival) = reached.marked(arc.from) {
+        let delay = u32::try_from(delay_at(extreme, arc)).unwrap_or(0);
+        reached.bring(extreme, arc.to, arrival.led_on(delay, number));
+    }
+}
+
+/// Takes arcs of these numbers, one after another. They are gathered first, so that none waits for the one before.
+fn take_all(reached: &mut Reached, extreme: Extreme, arcs: &[TimingArc], numbers: &[u32]) {
+    let mut gathered = [NO_ARC; BLOCK];
+    for (place, number) in gathered.iter_mut().zip(numbers) {
+        *place = arcs.get(*number as usize).copied().unwrap_or(NO_ARC);
+    }
+    for (arc, number) in gathered.iter().zip(numbers) {
+        take(reached, extreme, arc, *number);
+    }
+}
+
 /// Finds the best sums from one bit to all others.
 fn sweep_arcs(reached: &mut Reached, extreme: Extreme, system: &System, from: u32) {
     reached.clear_all();
     reached.bring(extreme, from, START);
-    for number in system.order().arcs().items() {
-        let Some(arc) = system.flat().arcs().get(*number as usize) else {
-            continue;
-        };
-        if let Some(arrival) = reached.marked(arc.from) {
-            let delay = u32::try_from(delay_at(extreme, arc)).unwrap_or(0);
-            reached.bring(extreme, arc.to, arrival.led_on(delay, *number));
-        }
+    let arcs = system.flat().arcs();
+    for numbers in system.order().arcs().items().chunks(BLOCK) {
+        take_all(reached, extreme, arcs, numbers);
     }
 }
 

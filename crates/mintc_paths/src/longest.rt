@@ -26,9 +26,7 @@ fn raise(sums: &mut [i64], arc: TimingArc)
         bit_sum sums.new arc.to ≤ℤ most }
 {
     let sum = sums[arc.from as usize] + arc.max;
-    if sums[arc.to as usize] < sum {
-        sums[arc.to as usize] = sum;
-    }
+    sums[arc.to as usize] = sums[arc.to as usize].max(sum);
 }
 
 /// Makes the sums, which are 0 in each row, the greatest along arcs that end there, wherever they begin, in
