@@ -1,5 +1,5 @@
 -- Sums that bound all paths at once.
-use Rattle.std.proofs.Common.{◌≡◌, ◌≢◌, ◌<◌, ◌≤◌, ◌+◌, ◌*◌, ⊎_elim, ℕ, ℤ, pos, ◌+ℤ◌, ◌≤ℤ◌, List, [], ◌∷◌, length, get_or, replicate, arith, ap, sym, ◌∙◌, All}
+use Rattle.std.proofs.Common.{◌≡◌, ◌≢◌, ◌<◌, ◌≤◌, ◌+◌, ◌*◌, ⊎_elim, ℕ, ℤ, pos, ◌+ℤ◌, ◌≤ℤ◌, List, [], ◌∷◌, length, get_or, replicate, arith, ap, sym, All}
 use Rattle.std.proofs.lemmas.Bool.{cases_eq, cases_lt}
 use Rattle.std.proofs.lemmas.Int.{ints}
 use Rattle.std.proofs.lemmas.List.{get_or-replicate, get_or_past, length-replicate}
@@ -19,10 +19,6 @@ AreCarried-zeros arcs order sums zero = record {
   high = λ bit. omega (arith, ints, zero bit);
   carried = λ i below. absurd (omega arith);
 }
-
--- the same of as many zeros
-pub AreCarried_zeros : (arcs : List TimingArc) (order : List ℕ) (n : ℕ) (sums : List ℤ) → sums ≡ replicate n (pos 0) → AreCarried arcs order 0 sums
-AreCarried_zeros arcs order n sums same = AreCarried-zeros arcs order sums (λ bit. ap (λ (x : List ℤ). bit_sum x bit) same ∙ none_at n bit)
 
 module _ (arcs : List TimingArc) (order : List ℕ) (is_order : IsOrder arcs order) where
   -- the arc at a place of the order

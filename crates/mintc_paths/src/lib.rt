@@ -44,7 +44,7 @@ use found::Found;
 pub use laws::{
     accepted_designs_have_systems, ordered_designs_have_systems_or_refusals, pairs_exist,
 };
-pub use longest::{bound_is_within_limit, order_is_within_limit};
+pub use longest::bound_is_within_limit;
 use mintc_text::{Kind, Limits, Numbers, OutOfMemory, Refusal, Stop};
 use mintc_timing::{Flat, Order, Pair, System};
 pub use reversed::{element_order, reversed_sequence};

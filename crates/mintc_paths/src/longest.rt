@@ -26,7 +26,9 @@ fn raise(sums: &mut [i64], arc: TimingArc)
         bit_sum sums.new arc.to ≤ℤ most }
 {
     let sum = sums[arc.from as usize] + arc.max;
-    sums[arc.to as usize] = sums[arc.to as usize].max(sum);
+    if sums[arc.to as usize] < sum {
+        sums[arc.to as usize] = sum;
+    }
 }
 
 /// Makes the sums, which are 0 in each row, the greatest along arcs that end there, wherever they begin, in
@@ -42,23 +44,6 @@ fn raise_all(sums: &mut [i64], flat: &Flat, order: &Order, sequence: &ArcSequenc
 {
     for place in 0..sequence.along.len() {
         raise(sums, sequence.along[place]);
-    }
-}
-
-/// The same, at the bits along the order.
-#[tactic(auto, using(mintc_timing::proofs::SharedOrdered::inside))]
-fn raise_in_order(sums: &mut [i64], flat: &Flat, order: &Order)
-    requires design { IsDesign flat.now }
-    requires order { IsOrder flat.now.arcs order.now }
-    requires bits { length sums.old ≡ 2 * length flat.now.elements + length flat.now.inner }
-    requires none { AreCarried flat.now.arcs order.now 0 sums.old }
-    ensures { AreCarried flat.now.arcs order.now (length order.now) sums.new }
-{
-    let (arcs, numbers) = (flat.arcs(), order.arcs().items());
-    for place in 0..numbers.len() {
-        let number = numbers[place];
-        let arc = arcs[number as usize];
-        raise(sums, arc);
     }
 }
 
@@ -100,15 +85,4 @@ pub fn bound_is_within_limit(
     ensures { IfOk result (λ short. OnTrue short (ArePathsShort flat.now)) }
 {
     runs_are_within_limit(alloc, flat, order, sequence)
-}
-
-/// The same, without a sequence: it takes one look along the order.
-#[tactic(auto, using(crate::proofs::Plain::AreCarried_zeros))]
-pub fn order_is_within_limit(alloc: Global, flat: &Flat, order: &Order) -> Result<bool, AllocError>
-    requires { IsOrder flat.now.arcs order.now }
-    ensures { IfOk result (λ short. OnTrue short (ArePathsShort flat.now)) }
-{
-    let mut sums = vec![in alloc; 0; flat.bit_count()]?;
-    raise_in_order(&mut sums, flat, order);
-    Ok(are_within(&sums))
 }

@@ -7,7 +7,7 @@ ghost use Rattle.mintc_timing.specs.Limits.{IsDesign};
 ghost use Rattle.mintc_timing.specs.Order.{IsOrder, ArePathsShort};
 ghost use Rattle.mintc_paths_count.specs.Bound.{HasFewPairs, pairs_by, most_pairs};
 
-use mintc_paths::order_is_within_limit;
+use mintc_paths::{ArcSequence, Rows, bound_is_within_limit};
 use mintc_text::Limits;
 use mintc_timing::{Flat, Order, TimingArc};
 use std::alloc::{AllocError, Global};
@@ -56,5 +56,8 @@ pub(crate) fn are_plainly_few(
     if (limits.most().pairs as u64) < most_pairs(flat) {
         return Ok(false);
     }
-    order_is_within_limit(alloc, flat, order)
+    let rows = Rows::plain(alloc, flat.bit_count())?;
+    let sequence = ArcSequence::new(alloc, flat, order, rows)?;
+    let short = bound_is_within_limit(alloc, flat, order, &sequence)?;
+    Ok(short)
 }

@@ -1,5 +1,5 @@
 //! Marks at bits, of up to 128 elements at a time: whether a path leads there from each of them.
-ghost use Rattle.std.specs.Prelude.{◌≡◌, ◌≢◌, ◌+◌, ◌*◌, ◌<◌, ◌≤◌, ℕ, List, length, max, slice_index_or, false, OnOk};
+ghost use Rattle.std.specs.Prelude.{◌≡◌, ◌≢◌, ◌⊎◌, ◌+◌, ◌*◌, ◌<◌, ◌≤◌, ℕ, List, length, max, slice_index_or, false, OnOk};
 ghost use Rattle.mintc_text.specs.declared.limits.TheConstants.{MOST_ELEMENTS};
 ghost use Rattle.mintc_timing.specs.Paths.{input_of};
 ghost use Rattle.mintc_timing.specs.declared.parts.TimingArc.{TimingArc};
@@ -46,6 +46,32 @@ fn set(marks: &mut [Marks], row: usize, lane: usize)
     at.words[lane / 64] |= 1 << (lane % 64);
 }
 
+/// How many rows are looked at together, of which mostly none is reached.
+const ROWS_TOGETHER: usize = 64;
+
+/// Whether one of these rows is reached.
+fn is_any_reached(reached: &Stamps, first: usize, end: usize) -> bool
+    requires { end ≤ length reached.now }
+    ensures { result ≡ false → (row : ℕ) → first ≤ row → row < end → slice_index_or reached.now row false ≡ false }
+{
+    let mut any = false;
+    for row in first..end {
+        any |= reached.at(row);
+    }
+    any
+}
+
+/// Takes away the marks in these rows.
+fn wipe_rows(marks: &mut [Marks], first: usize, end: usize)
+    requires { end ≤ length marks.old }
+    ensures none { (row : ℕ) → first ≤ row → row < end → marks_at marks.new row ≡ NO_MARKS }
+    ensures others { (row : ℕ) → (row < first) ⊎ (end ≤ row) → marks_at marks.new row ≡ marks_at marks.old row }
+{
+    for row in first..end {
+        marks[row] = NO_MARKS;
+    }
+}
+
 /// Takes away the marks in the rows that were reached.
 fn wipe(marks: &mut [Marks], reached: &mut Stamps)
     requires marked { AreMarksReached marks.old reached.old }
@@ -53,10 +79,13 @@ fn wipe(marks: &mut [Marks], reached: &mut Stamps)
     ensures marked { AreMarksReached marks.new reached.new }
     ensures off { (row : ℕ) → slice_index_or reached.new row false ≡ false }
 {
-    for row in 0..marks.len() {
-        if reached.at(row) {
-            marks[row] = NO_MARKS;
+    let mut first = 0;
+    while first < marks.len() {
+        let end = marks.len().min(first + ROWS_TOGETHER);
+        if is_any_reached(reached, first, end) {
+            wipe_rows(marks, first, end);
         }
+        first = end;
     }
     reached.clear();
 }

@@ -9,7 +9,7 @@ pub returns-clause-few : goal.returns-clause-few
 returns-clause-few c =
     let limit = ap (λ (m : Most). m.pairs) c.most.ensures.value in
     let few : most_pairs (length c.args.flat.now.elements) c.args.flat.now.arcs ≤ c.args.limits.now.pairs = omega (arith, c.if-most-most_pairs.false, c.most_pairs.ensures.value, limit) in
-    always c.in_ok-order_is_within_limit (has_few c.args.flat.now c.most_pairs.ensures.design c.args.order.now c.requires c.args.limits.now few)
+    always c.in_ok-short.short (has_few c.args.flat.now c.most_pairs.ensures.design c.args.order.now c.requires c.args.limits.now few)
   where
     always : (b : Bool) {P : Type 0} → P → OnTrue b P
     always true p = p
