@@ -1,5 +1,5 @@
 -- Arcs that leave no row that is reached change no sums.
-use Rattle.std.proofs.Common.{◌≡◌, ℕ, ◌<◌, ◌≤◌, ◌+◌, ◌*◌, min, ℤ, Bool, true, false, List, length, get_or, arith, refl, ap, ◌∙◌, sym, Option, Some, None, subst}
+use Rattle.std.proofs.Common.{◌≡◌, ◌≢◌, ℕ, ◌<◌, ◌≤◌, ◌+◌, ◌*◌, min, ℤ, Bool, true, false, List, length, get_or, arith, refl, ap, ◌∙◌, sym, Option, Some, None, subst}
 use Rattle.std.specs.Int.{int_max, int_min}
 use Rattle.mintc_timing.specs.declared.parts.TimingArc.{TimingArc}
 use Rattle.mintc_timing.specs.Design.{Design}
@@ -10,7 +10,7 @@ use Rattle.mintc_lanes.specs.Lanes.{lane_at, joined, AreJoined}
 use Rattle.mintc_paths_sums.specs.declared.sums.Sums.{Sums}
 use Rattle.mintc_paths_sums.specs.declared.sums.TheConstants.{NO_SUMS}
 use Rattle.mintc_paths_sums.specs.Sums.{sums_at, IsAlike, IsBounded}
-use Rattle.mintc_paths_sums.specs.Placed.{placed}
+use Rattle.mintc_paths_sums.specs.Placed.{placed, row_of}
 use Rattle.mintc_paths_sums.proofs.SharedPlaced.{length-placed}
 use Rattle.mintc_paths_sums.proofs.SharedNoSums.{none_at}
 use Rattle.mintc_paths.specs.Worklist.{IsOn, IsAwake}
@@ -85,6 +85,19 @@ module _ (design : Design) (order : List ℕ) (is_order : IsOrder design.arcs or
 
   pub max_in : (i : ℕ) → i < length order → IsDelay (arc_at sequence.along.items i).max
   max_in i low = subst (λ (x : TimingArc). IsDelay x.max) (sym (is_sequence.along.each i low)) (in_design i low).max
+
+  pub min_in : (i : ℕ) → i < length order → IsDelay (arc_at sequence.along.items i).min
+  min_in i low = subst (λ (x : TimingArc). IsDelay x.min) (sym (is_sequence.along.each i low)) (in_design i low).min
+
+  pub rows_differ : (i : ℕ) → i < length order → (arc_at sequence.along.items i).from ≢ (arc_at sequence.along.items i).to
+  rows_differ i low same =
+      let h = is_sequence.rows.of_bits in
+      let is = is_sequence.along.each i low in
+      let rows_same : row_of sequence.rows.of_bits.items (arc_of i).from ≡ row_of sequence.rows.of_bits.items (arc_of i).to =
+      sym (ap (λ (x : TimingArc). x.from) is) ∙ same ∙ ap (λ (x : TimingArc). x.to) is in
+      let bits_same : (arc_of i).from ≡ (arc_of i).to =
+      sym (h.leads (arc_of i).from (from_in i low)) ∙ ap (row_of sequence.rows.bits.items) rows_same ∙ h.leads (arc_of i).to (to_in i low) in
+      omega (arith, is_order.ordered i i low low (sym bits_same))
 
   pub few_arcs : (i : ℕ) → i < length order → i * 1000000000 ≤ 20000000000000000
   few_arcs i low = omega (arith, is_order.count)

@@ -200,9 +200,10 @@ impl Finder {
         requires { IsDelayOf wanted.extreme system.now.pairs wanted.from wanted.to wanted.delay }
         ensures { IfOk result (IsListedWith wanted.extreme system.now.flat.arcs wanted.from wanted.to wanted.delay) }
     {
+        let flat = system.flat();
         let (start, end) = (2 * wanted.from + 1, 2 * wanted.to);
         let path = self.search(alloc, wanted.extreme, system, start, end)?;
-        if is_listed_with(system.flat(), &path, wanted) {
+        if is_listed_with(flat, &path, wanted) {
             return Ok(Numbers::new(path));
         }
         self.missed = self.missed.saturating_add(1);

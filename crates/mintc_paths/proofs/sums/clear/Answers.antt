@@ -1,6 +1,7 @@
-use Rattle.std.proofs.Common.{◌≡◌, ◌<◌, ◌+◌, ◌*◌, ◌∙◌, ℕ, length, arith}
+use Rattle.std.proofs.Common.{◌≡◌, ◌<◌, ◌+◌, ◌*◌, ◌∙◌, ℕ, length, arith, subst}
 use Rattle.std.proofs.lemmas.List.{get_or_default}
 use Rattle.mintc_paths_sums.specs.Placed.{row_of}
+use Rattle.mintc_paths.specs.Worklist.{IsReady}
 use Rattle.mintc_paths.proofs.Marking.{marked_more}
 use Rattle.mintc_paths.proofs.SharedWaking.{IsAwake-none}
 use Rattle.mintc_paths.proofs.Beginning.{IsBegun}
@@ -8,10 +9,14 @@ use Rattle.mintc_paths.proofs.Rowing.{AreBegun-placed_none, AreBegun-placed_more
 use Rattle.mintc_paths.proofs.sums.clear.Goals as goal
 
 pub loop-lane-init : goal.loop-lane-init
-loop-lane-init c = record {
+loop-lane-init c =
+    let along = c.args.sequence.now.along in
+    let count : c.len.result ≡ length along.items = omega (arith, c.len.ensures, along.ok.0) in
+    let ready : IsReady (length along.items) c.renew.new.self = subst (λ (n : ℕ). IsReady n c.renew.new.self) count c.renew.ensures.ready in
+    record {
   begun = λ arcs order. AreBegun-placed_none arcs order c.args.first (length c.args.sums.now) c.args.sequence.now.rows c.requires.rows c.wipe.new.sums c.wipe.ensures.count c.wipe.ensures.none;
   marked = c.wipe.ensures.marked;
-  awake = IsAwake-none c.args.sequence.now.along.items 0 c.wipe.new.reached c.renew.new.self c.renew.ensures c.wipe.ensures.off;
+  awake = IsAwake-none c.args.sequence.now.along.items 0 c.wipe.new.reached c.renew.new.self ready c.wipe.ensures.off;
   count = c.wipe.ensures.count;
 }
 

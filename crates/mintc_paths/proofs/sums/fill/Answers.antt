@@ -1,4 +1,3 @@
-use Rattle.std.proofs.lemmas.Grind.{common_steps}
 use Rattle.std.proofs.Common.{◌≡◌, ◌<◌, ◌≤◌, ◌+◌, ◌∙◌, ℕ, length, arith}
 use Rattle.std.proofs.lemmas.List.{get_or_default}
 use Rattle.mintc_timing.specs.Design.{no_arc}
@@ -8,7 +7,7 @@ use Rattle.mintc_paths_sums.proofs.SharedPlaced.{length-placed}
 use Rattle.mintc_paths.specs.Worklist.{IsAwake}
 use Rattle.mintc_paths.specs.Sums.{AreSums}
 use Rattle.mintc_paths.proofs.Filling.{IsCarried}
-use Rattle.mintc_paths.proofs.SharedPassing.{IsSmallAt, ends_small, carried_along, passed_next, at_place, at_end}
+use Rattle.mintc_paths.proofs.SharedPassing.{IsSmallAt, ends_small, carried_along, passed_next, at_place, at_end, row_in, row_to_in, rows_differ, min_in, max_in}
 use Rattle.mintc_paths.proofs.Reaching.{AreExtremes-from_sums}
 use Rattle.mintc_paths.proofs.sums.fill.Given.{Over}
 use Rattle.mintc_paths.proofs.sums.fill.Goals as goal
@@ -88,19 +87,43 @@ returns-clause-extremes g c =
 pub next-place-requires-in-loop-place : goal.next-place-requires-in-loop-place
 next-place-requires-in-loop-place g c =
     let rest = IsAwake-next c.args.sequence.now.along.items c.loop-place.place c.loop-place.reached c.loop-place.awake _ c.pass.ensures.count c.pass.ensures.others c.loop-place.invariant.awake in
-    (c.in_ok-carry.ensures.awake (c.loop-place.place + 1) rest).ready.few
+    record { few = (c.in_ok-carry.ensures.awake (c.loop-place.place + 1) rest).ready.few }
+
+-- the arc is one of the order
+low : (g : Over) (c : After-index-arc g) → c.loop-place.place < length g.of.order
+low g c = omega (arith, c.args.sequence.now.along.ok.0, c.requires.0.is_sequence.along.count)
 
 pub carry-requires-clause-from : goal.carry-requires-clause-from
-carry-requires-clause-from c = grind (arith, common_steps)
+carry-requires-clause-from g c =
+    let turn = (goal.at.carry-requires-clause-from g c).After-index-arc in
+    let h = turn.requires.0 in
+    let row = row_in g.of.design g.of.order h.is_ordered.order h.is_ordered.kept turn.args.sequence.now (length turn.args.sums.now) h.is_sequence h.bits turn.loop-place.place (low g turn) in
+    rw (arc_is g turn) (omega (arith, turn.loop-place.invariant.count))
 
 pub carry-requires-clause-to : goal.carry-requires-clause-to
-carry-requires-clause-to c = grind (arith, common_steps)
+carry-requires-clause-to g c =
+    let turn = (goal.at.carry-requires-clause-to g c).After-index-arc in
+    let h = turn.requires.0 in
+    let row = row_to_in g.of.design g.of.order h.is_ordered.order h.is_ordered.kept turn.args.sequence.now (length turn.args.sums.now) h.is_sequence h.bits turn.loop-place.place (low g turn) in
+    rw (arc_is g turn) (omega (arith, turn.loop-place.invariant.count))
 
 pub carry-requires-clause-apart : goal.carry-requires-clause-apart
-carry-requires-clause-apart c = grind (arith, common_steps)
+carry-requires-clause-apart g c =
+    let turn = (goal.at.carry-requires-clause-apart g c).After-index-arc in
+    let h = turn.requires.0 in
+    rw (arc_is g turn)
+    (rows_differ g.of.design g.of.order h.is_ordered.order h.is_ordered.kept turn.args.sequence.now (length turn.args.sums.now) h.is_sequence h.bits turn.loop-place.place (low g turn))
 
 pub carry-requires-clause-min : goal.carry-requires-clause-min
-carry-requires-clause-min c = grind (arith, common_steps)
+carry-requires-clause-min g c =
+    let turn = (goal.at.carry-requires-clause-min g c).After-index-arc in
+    let h = turn.requires.0 in
+    rw (arc_is g turn)
+    (min_in g.of.design g.of.order h.is_ordered.order h.is_ordered.kept turn.args.sequence.now (length turn.args.sums.now) h.is_sequence h.bits turn.loop-place.place (low g turn))
 
 pub carry-requires-clause-max : goal.carry-requires-clause-max
-carry-requires-clause-max c = grind (arith, common_steps)
+carry-requires-clause-max g c =
+    let turn = (goal.at.carry-requires-clause-max g c).After-index-arc in
+    let h = turn.requires.0 in
+    rw (arc_is g turn)
+    (max_in g.of.design g.of.order h.is_ordered.order h.is_ordered.kept turn.args.sequence.now (length turn.args.sums.now) h.is_sequence h.bits turn.loop-place.place (low g turn))
