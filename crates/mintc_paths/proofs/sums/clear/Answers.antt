@@ -14,11 +14,11 @@ loop-lane-init c =
     let count : c.len.result ≡ length along.items = omega (arith, c.len.ensures, along.ok.0) in
     let ready : IsReady (length along.items) c.renew.new.self = subst (λ (n : ℕ). IsReady n c.renew.new.self) count c.renew.ensures.ready in
     record {
-  begun = λ arcs order. AreBegun-placed_none arcs order c.args.first (length c.args.sums.now) c.args.sequence.now.rows c.requires.rows c.wipe.new.sums c.wipe.ensures.count c.wipe.ensures.none;
-  marked = c.wipe.ensures.marked;
-  awake = IsAwake-none c.args.sequence.now.along.items 0 c.wipe.new.reached c.renew.new.self ready c.wipe.ensures.off;
-  count = c.wipe.ensures.count;
-}
+      begun = λ arcs order. AreBegun-placed_none arcs order c.args.first (length c.args.sums.now) c.args.sequence.now.rows c.requires.rows c.wipe.new.sums c.wipe.ensures.count c.wipe.ensures.none;
+      marked = c.wipe.ensures.marked;
+      awake = IsAwake-none c.args.sequence.now.along.items 0 c.wipe.new.reached c.renew.new.self ready c.wipe.ensures.off;
+      count = c.wipe.ensures.count;
+    }
 
 pub loop-lane-preserved : goal.loop-lane-preserved
 loop-lane-preserved c =
