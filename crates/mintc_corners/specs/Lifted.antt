@@ -1,7 +1,7 @@
 -- What a corner's link is among those of all corners, and which links are low enough to be one.
 use Rattle.std.specs.Prelude.{◌<◌, ◌≤◌, ◌+◌, ℕ, ℤ, pos, nat_lt, if◌then◌else◌, List, [], ◌∷◌}
 use Rattle.std.specs.Int.{int_max}
-use Rattle.mintc_text.specs.declared.limits.TheConstants.{MOST_ELEMENTS}
+use Rattle.mintc_text.specs.declared.limits.TheConstants.{MOST_ELEMENTS, MOST_NODES}
 use Rattle.mintc_timing.specs.declared.link.Link.{Link}
 use Rattle.mintc_timing.specs.declared.link.LinkKind.{LinkKind}
 use Rattle.mintc_timing.specs.declared.link.LinkKind.TheVariants as kind
@@ -46,6 +46,6 @@ HasLowKind which = Unit {0}
 
 -- The nodes and the elements of the link are of one design.
 pub record IsLow (k : Link) : Type 0 where
-  pub from : k.from ≤ 20016
-  pub to : k.to ≤ 20016
+  pub from : k.from < MOST_NODES
+  pub to : k.to < MOST_NODES
   pub kind : HasLowKind k.kind

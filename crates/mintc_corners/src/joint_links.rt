@@ -1,6 +1,6 @@
 //! The links of a corner among those of all corners.
-ghost use Rattle.std.specs.Prelude.{◌≡◌, ◌≤◌};
-ghost use Rattle.mintc_text.specs.declared.limits.TheConstants.{MOST_ELEMENTS};
+ghost use Rattle.std.specs.Prelude.{◌≡◌, ◌<◌, ◌≤◌};
+ghost use Rattle.mintc_text.specs.declared.limits.TheConstants.{MOST_ELEMENTS, MOST_NODES};
 ghost use Rattle.mintc_corners.specs.Lifted.{HasLowKind, IsLow, lifted_delay as lifted_delay_of};
 ghost use Rattle.mintc_corners.specs.Lifted.{lifted_kind as lifted_kind_of, lifted_link, lifted_node as lifted_node_of};
 ghost use Rattle.mintc_corners.specs.Lifted.{widest};
@@ -11,7 +11,7 @@ use mintc_timing_links::width_needed;
 /// The number of a corner's node among those of all: time 0 and the nodes of the clock keep theirs, and the
 /// elements come after those of the corners before.
 fn lifted_node(clock: u32, before: u32, node: u32) -> u32
-    requires node { node ≤ 20016 }
+    requires node { node < MOST_NODES }
     requires before { before ≤ MOST_ELEMENTS }
     ensures { result ≡ lifted_node_of clock before node }
 {

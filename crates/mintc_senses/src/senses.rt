@@ -129,7 +129,7 @@ pub fn read_senses(alloc: Global, text: &[u8], cells: &Cells) -> Result<Senses, 
         let next = senses_at(alloc, places, cells, number)?;
         push_cell(&mut all, next)?;
     }
-    Ok(Senses::new(all))
+    Ok(Senses { cells: all })
 }
 
 impl Senses {

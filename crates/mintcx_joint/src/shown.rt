@@ -1,5 +1,6 @@
 //! By which corner the members of a chain are shown, and their stages.
 ghost use Rattle.std.specs.Prelude.{◌≡◌, ◌<◌, ◌≤◌, length, IfOk};
+ghost use Rattle.mintc_text.specs.declared.limits.TheConstants.{MOST_NODES};
 ghost use Rattle.mintc_timing.specs.Limits.{IsDesign, IsSpan};
 ghost use Rattle.mintc_certificate.specs.CertificateText.{IsCounted};
 ghost use Rattle.mintc_certificate.specs.Valid.{IsNamed, link_of as link_of_member};
@@ -111,7 +112,7 @@ pub fn own_stage(
 fn joint_node(systems: &[System], corner: usize, node: u32) -> u32
     requires few { length systems.now ≤ 4 }
     requires corner { corner < length systems.now }
-    requires node { node ≤ 20016 }
+    requires node { node < MOST_NODES }
     ensures { result ≡ joint_node systems.now corner node }
 {
     let first = systems[0].flat();
