@@ -1,5 +1,5 @@
 -- What a corner's link is among those of all corners, and which links are low enough to be one.
-use Rattle.std.specs.Prelude.{◌<◌, ◌≤◌, ◌+◌, ℕ, ℤ, pos, nat_lt, if◌then◌else◌, List, [], ◌∷◌}
+use Rattle.std.specs.Prelude.{◌<◌, ◌+◌, ℕ, ℤ, pos, nat_lt, if◌then◌else◌, List, [], ◌∷◌}
 use Rattle.std.specs.Int.{int_max}
 use Rattle.mintc_text.specs.declared.limits.TheConstants.{MOST_ELEMENTS, MOST_NODES}
 use Rattle.mintc_timing.specs.declared.link.Link.{Link}
