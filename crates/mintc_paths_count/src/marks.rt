@@ -63,7 +63,8 @@ fn is_any_reached(reached: &Stamps, first: usize, end: usize) -> bool
 
 /// Takes away the marks in these rows.
 fn wipe_rows(marks: &mut [Marks], first: usize, end: usize)
-    requires { end ≤ length marks.old }
+    requires order { first ≤ end }
+    requires within { end ≤ length marks.old }
     ensures none { (row : ℕ) → first ≤ row → row < end → marks_at marks.new row ≡ NO_MARKS }
     ensures others { (row : ℕ) → (row < first) ⊎ (end ≤ row) → marks_at marks.new row ≡ marks_at marks.old row }
 {

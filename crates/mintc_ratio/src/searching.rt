@@ -24,13 +24,16 @@ pub enum Outcome {
     Never,
 }
 
+/// The greatest delay of a link, in femtoseconds.
+const GREATEST: i128 = MOST_LINK_DELAY as i128;
+
 /// A part of the grid that no chain's ratio exceeds.
 fn top_of(nodes: u32) -> i128
     requires { nodes ≤ most_nodes }
     ensures { result ≡ top_of nodes }
 {
     let nodes = i128::from(nodes);
-    i128::from(MOST_LINK_DELAY) * nodes * nodes * nodes
+    GREATEST * nodes * nodes * nodes
 }
 
 /// Searches on from a chain in the room, in as many steps as are left.

@@ -5,7 +5,7 @@ use Rattle.mintc_timing.specs.Paths.{arc_at}
 use Rattle.mintc_paths.specs.Worklist.{IsAwake}
 use Rattle.mintc_paths_count.proofs.Leading.{AreCarriedMarks, AreMarksAlong-begun}
 use Rattle.mintc_paths_count.proofs.Noting.{marked_along, unmarked_next}
-use Rattle.mintc_paths.proofs.SharedPassing.{at_place}
+use Rattle.mintc_paths.proofs.SharedPassing.{at_place, row_in, row_to_in}
 use Rattle.mintc_paths.proofs.SharedWaking.{IsAwake-later, IsAwake-next}
 use Rattle.mintc_paths_count.proofs.marks.mark_all.Given.{Over}
 use Rattle.mintc_paths_count.proofs.marks.mark_all.Goals as goal
@@ -31,7 +31,23 @@ arc_is g c = c.index-arc.ensures ∙ get_or_default c.args.sequence.now.along.it
 pub next-place-requires-in-loop-place : goal.next-place-requires-in-loop-place
 next-place-requires-in-loop-place g c =
     let rest = IsAwake-next c.args.sequence.now.along.items c.loop-place.place c.loop-place.reached c.loop-place.awake _ c.pass.ensures.count c.pass.ensures.others c.loop-place.invariant.awake in
-    (c.carry.ensures.awake (c.loop-place.place + 1) rest).ready.few
+    record { few = (c.carry.ensures.awake (c.loop-place.place + 1) rest).ready.few }
+
+pub carry-requires-clause-from : goal.carry-requires-clause-from
+carry-requires-clause-from g c =
+    let turn = (goal.at.carry-requires-clause-from g c).After-index-arc in
+    let h = turn.requires.0 in
+    let low : turn.loop-place.place < length g.of.order = omega (arith, turn.args.sequence.now.along.ok.0, h.is_sequence.along.count) in
+    let row = row_in g.of.design g.of.order h.is_ordered.order h.is_ordered.kept turn.args.sequence.now (length turn.args.marks.now) h.is_sequence h.bits turn.loop-place.place low in
+    rw (arc_is g turn) (omega (arith, turn.loop-place.invariant.count))
+
+pub carry-requires-clause-to : goal.carry-requires-clause-to
+carry-requires-clause-to g c =
+    let turn = (goal.at.carry-requires-clause-to g c).After-index-arc in
+    let h = turn.requires.0 in
+    let low : turn.loop-place.place < length g.of.order = omega (arith, turn.args.sequence.now.along.ok.0, h.is_sequence.along.count) in
+    let row = row_to_in g.of.design g.of.order h.is_ordered.order h.is_ordered.kept turn.args.sequence.now (length turn.args.marks.now) h.is_sequence h.bits turn.loop-place.place low in
+    rw (arc_is g turn) (omega (arith, turn.loop-place.invariant.count))
 
 pub loop-place-preserved : goal.loop-place-preserved
 loop-place-preserved g c =
