@@ -18,11 +18,11 @@ use mintcx_clock_cells::clock_cells;
 use mintcx_sense_keys::read_sensed_cells;
 use std::alloc::Global;
 
-/// The design with edges apart of a netlist, delays, cells and a clock. The senses are those that the description's keys
-/// say; where they don't name a pin, each edge of it may make both edges of an output. The refusal is the first in the
-/// order of a run: Syntax of the netlist; Syntax, Range or Negative of the delays; BadCell, of which rule 9 is about the
-/// keys; BadClock; those of the hierarchy; those of the clock's ports, of what delays speak of, of phases, and of limits,
-/// which count each element and each inner bit twice.
+/// The design with edges apart of a netlist, delays, cells and a clock. The senses are those that the keys of the
+/// description say; where they don't name a pin, each edge of it may make both edges of an output. The refusal is the
+/// first in the order of a run: Syntax of the netlist; Syntax, Range or Negative of the delays; BadCell, of which rule
+/// 9 is about the keys; BadClock; those of the hierarchy; those of the clock's ports, of what delays speak of, of
+/// phases, and of limits, which count each element and each inner bit twice.
 pub fn from_edge_files(
     alloc: Global,
     limits: &Limits,

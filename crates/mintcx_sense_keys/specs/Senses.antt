@@ -1,6 +1,6 @@
 -- What the keys of senses say of the pins of a cell.
-use Rattle.std.specs.Prelude.{ℕ, ◌+◌, Bool, false, true, ◌&&◌, ◌||◌, if◌then◌else◌, List, ◌∷◌, ◌++◌, map, length, nat_le}
-use Rattle.std.specs.Prelude.{codes, bytes_eq, count_by}
+use Rattle.std.specs.Prelude.{ℕ, ◌+◌, Bool, false, true, ◌&&◌, ◌||◌, if◌then◌else◌, List, ◌∷◌, ◌++◌, map, length}
+use Rattle.std.specs.Prelude.{nat_le, codes, bytes_eq, count_by}
 use Rattle.std.specs.List.{list_any, list_all}
 use Rattle.toml.specs.Data.{Data, table, Members, no_members, get_member}
 use Rattle.mintc_toml.specs.Lookups.{texts_in, are_texts_in}
@@ -23,10 +23,10 @@ keys_of ms = record {
 -- between; of a latch or flop it is the output, and the pin is the data pin.
 abbrev pub names_pair : Cell → List ℕ → List ℕ → List ℕ → Bool
 names_pair (Gate inputs outputs min max) a y item = bytes_eq item a || bytes_eq item (a ++ 32 ∷ y)
-names_pair (Latch pin_d pin_g high outputs ignored setup hold has_hold dq_min dq_max cq_min cq_max has_cq width) a y item
-    = bytes_eq a pin_d && bytes_eq item y
-names_pair (Flop pin_d pin_clock rising outputs ignored setup hold has_hold cq_min cq_max width) a y item
-    = bytes_eq a pin_d && bytes_eq item y
+names_pair (Latch pin_d pin_g high outputs ignored setup hold has_hold dq_min dq_max cq_min cq_max has_cq width) a y i =
+    bytes_eq a pin_d && bytes_eq i y
+names_pair (Flop pin_d pin_clock rising outputs ignored setup hold has_hold cq_min cq_max width) a y item =
+    bytes_eq a pin_d && bytes_eq item y
 names_pair (Clock input output invert ignored) a y item = false
 
 -- which edges of pin a may make which edges of output y: all of them where no item names the pair
@@ -53,7 +53,8 @@ is_named_once keys cell a y =
 
 -- whether it is so of each pair
 abbrev pub are_named_once : Keys → Cell → Bool
-are_named_once keys cell = list_all (λ y. list_all (λ a. is_named_once keys cell a y) (inputs_of cell)) (outputs_of cell)
+are_named_once keys cell = list_all (λ y. list_all (λ a. is_named_once keys cell a y) (inputs_of cell))
+    (outputs_of cell)
 
 -- whether there are as many items as a gate may have pairs at most, which the rest of the rule implies
 abbrev pub are_few : Keys → Bool
