@@ -41,8 +41,11 @@ one_sensed_refusal law c (refusal.BadCell n rule) (refusal.BadCell m another) h 
 one_sensed_refusal law c (refusal.BadCell n rule) _ h k = absurd k
 one_sensed_refusal law c _ other h k = absurd h
 
+one_sensed : PlainCellsAreDetermined → (c : List ℕ) (a b : CellTable) → AreSensedCells c a → AreSensedCells c b → a ≡ b
+one_sensed law c a b h k = law c a b h.plain k.plain
+
 pub description_plain : PlainCellsAreDetermined → SensedCellsAreNotRefused → BadSensedCellsAreDetermined → IsPlain description
-description_plain one none bad = record { one_cells = λ c a b h k. one c a b h.plain k.plain; no_refused = no_sensed none; one_refused = one_sensed_refusal bad }
+description_plain one none bad = record { one_cells = one_sensed one; no_refused = no_sensed none; one_refused = one_sensed_refusal bad }
 
 -- ---- a library with gates
 

@@ -118,7 +118,8 @@ fn cell_help(rule: u32) -> &'static [u8] {
         7 => b"make each min at most its max",
         8 =>
             b"write `\"high\"` or `\"low\"`, `\"rising\"` or `\"falling\"`, `true` or `false` without quotes",
-        _ => b"a gate's items are `\"A\"` or `\"A Y\"`, those of a latch or flop its outputs; name each pair once",
+        _ =>
+            b"a gate's items are `\"A\"` or `\"A Y\"`, those of a latch or flop its outputs; name each pair once",
     }
 }
 

@@ -67,7 +67,8 @@ fn own_rule(rule: u32) -> &'static [u8] {
         6 => b": a number is no whole number, or out of its limit",
         7 => b": a max is below its min",
         8 => b": `active`, `edge` or `invert` is none of its values",
-        _ => b": `positive` or `negative` is no list of names, names no pin, or names a pair of pins twice",
+        _ =>
+            b": `positive` or `negative` is no list of names, names no pin, or names a pair of pins twice",
     }
 }
 
