@@ -1,6 +1,6 @@
-//! mintcx_edges: the worked design with edges apart is the one that is worked by hand, and without senses it has more
-//! arcs.
-use mintc_text::{Bytes, Limits, Stop};
+//! mintcx_edges: the worked design with edges apart is the one that is worked by hand, of a library as of a description
+//! that says the same senses, and without senses it has more arcs; and what is wrong with the keys of senses.
+use mintc_text::{Bytes, Limits, Refusal, Stop};
 use mintc_timing::Flat;
 use mintcx_edges::{Halt, from_edge_files, from_edge_liberty};
 use mintcx_tables::{obstacle_of, table_text};
@@ -27,7 +27,7 @@ const LIBRARY: &str = "library (two) {\ncell (NOT) { pin (A) { direction : input
      pin (D) { direction : input ; } pin (G) { direction : input ; }\n\
      pin (Q) { direction : output ; function : \"IQ\" ; } } }\n";
 
-/// Both as a description, which says no senses.
+/// Both as a description that says no senses.
 const CELLS: &str = "[cell.NOT]\nkind = \"gate\"\ninputs = [\"A\"]\noutputs = [\"Y\"]\n\
      [cell.LAT]\nkind = \"latch\"\nd = \"D\"\ng = \"G\"\noutputs = [\"Q\"]\n";
 
@@ -65,12 +65,12 @@ fn of_library(rt: &impl Abort, alloc: Global) -> Result<Flat, Halt> {
     )
 }
 
-/// The design of the description.
-fn of_description(rt: &impl Abort, alloc: Global) -> Result<Flat, Stop> {
+/// The design of a description.
+fn of_description(rt: &impl Abort, alloc: Global, cells: &str) -> Result<Flat, Stop> {
     assert!(rt;
         NETLIST.len() < 10_000
             && DELAYS.len() < 10_000
-            && CELLS.len() < 10_000
+            && cells.len() < 10_000
             && CLOCK.len() < 10_000
     );
     from_edge_files(
@@ -78,7 +78,7 @@ fn of_description(rt: &impl Abort, alloc: Global) -> Result<Flat, Stop> {
         &Limits::usual(),
         NETLIST.as_bytes(),
         DELAYS.as_bytes(),
-        CELLS.as_bytes(),
+        cells.as_bytes(),
         CLOCK.as_bytes(),
     )
 }
@@ -91,14 +91,43 @@ fn table_of(alloc: Global, flat: &Flat) -> Option<Bytes> {
     }
 }
 
+/// Whether a design has the table by hand.
+fn is_worked(alloc: Global, flat: &Flat) -> bool {
+    match table_of(alloc, flat) {
+        Some(table) => table.items() == TABLE.as_bytes(),
+        None => false,
+    }
+}
+
 /// Whether the design of the library has the table by hand.
 fn has_table(rt: &impl Abort, alloc: Global) -> bool {
     match of_library(rt, alloc) {
-        Ok(flat) => match table_of(alloc, &flat) {
-            Some(table) => table.items() == TABLE.as_bytes(),
-            None => false,
-        },
+        Ok(flat) => is_worked(alloc, &flat),
         Err(_) => false,
+    }
+}
+
+/// Whether the design of a description has the table by hand.
+fn is_described(rt: &impl Abort, alloc: Global, cells: &str) -> bool {
+    match of_description(rt, alloc, cells) {
+        Ok(flat) => is_worked(alloc, &flat),
+        Err(_) => false,
+    }
+}
+
+/// Whether the design of a description has so many arcs.
+fn has_arcs(rt: &impl Abort, alloc: Global, cells: &str, count: usize) -> bool {
+    match of_description(rt, alloc, cells) {
+        Ok(flat) => flat.arcs().len() == count,
+        Err(_) => false,
+    }
+}
+
+/// Whether a description is refused at this cell by this rule.
+fn is_refused(rt: &impl Abort, alloc: Global, cells: &str, wanted: (u32, u32)) -> bool {
+    match of_description(rt, alloc, cells) {
+        Err(Stop::Refused(Refusal::BadCell { entry, rule })) => (entry, rule) == wanted,
+        _ => false,
     }
 }
 
@@ -111,10 +140,107 @@ fn worked_files_have_their_design_with_edges_apart(rt: HostRuntime) -> Result<()
 
 // Row edges-apart-no-senses: the inverter and both outputs of latches have an arc for each transition.
 #[test]
-fn a_description_has_all_transitions(rt: HostRuntime) -> Result<(), Fail> {
-    match of_description(&rt, rt.alloc()) {
-        Ok(flat) => assert!(rt; flat.arcs().len() == 32),
-        Err(_) => panic!(rt; "no design"),
+fn a_description_has_all_transitions(rt: HostRuntime) {
+    assert!(rt; has_arcs(&rt, rt.alloc(), CELLS, 32));
+}
+
+/// Descriptions that say of both cells what the library says of them, an output to itself or to all.
+const SENSED: &[&str] = &[
+    "[cell.NOT]\nkind = \"gate\"\ninputs = [\"A\"]\noutputs = [\"Y\"]\nnegative = [\"A\"]\n\
+     [cell.LAT]\nkind = \"latch\"\nd = \"D\"\ng = \"G\"\noutputs = [\"Q\"]\npositive = [\"Q\"]\n",
+    "[cell.NOT]\nkind = \"gate\"\ninputs = [\"A\"]\noutputs = [\"Y\"]\nnegative = [\"A Y\"]\npositive = []\n\
+     [cell.LAT]\nkind = \"latch\"\nd = \"D\"\ng = \"G\"\noutputs = [\"Q\"]\npositive = [\"Q\"]\n",
+];
+
+// Row edges-apart-sensed-description.
+#[test]
+fn a_description_with_senses_has_the_design_of_the_library(rt: HostRuntime) {
+    for cells in SENSED {
+        assert!(rt; is_described(&rt, rt.alloc(), cells), "{cells}");
     }
-    Ok(())
+}
+
+/// Descriptions, and how many arcs their designs have: a pair that is named has two, one that isn't has four.
+const COUNTED: &[(&str, usize)] = &[
+    (
+        "[cell.NOT]\nkind = \"gate\"\ninputs = [\"A\"]\noutputs = [\"Y\"]\nnegative = [\"A\"]\n\
+         [cell.LAT]\nkind = \"latch\"\nd = \"D\"\ng = \"G\"\noutputs = [\"Q\"]\n",
+        30,
+    ),
+    (
+        "[cell.NOT]\nkind = \"gate\"\ninputs = [\"A\"]\noutputs = [\"Y\"]\nnegative = [\"A\"]\n\
+         [cell.LAT]\nkind = \"latch\"\nd = \"D\"\ng = \"G\"\noutputs = [\"Q\", \"QN\"]\n\
+         positive = [\"Q\"]\nnegative = [\"QN\"]\n",
+        30,
+    ),
+    (
+        "[cell.NOT]\nkind = \"gate\"\ninputs = [\"A\", \"B\"]\noutputs = [\"Y\"]\npositive = [\"B Y\"]\n\
+         [cell.LAT]\nkind = \"latch\"\nd = \"D\"\ng = \"G\"\noutputs = [\"Q\"]\npositive = [\"Q\"]\n",
+        30,
+    ),
+];
+
+// Row edges-apart-named-pairs.
+#[test]
+fn each_pair_has_the_transitions_of_its_key(rt: HostRuntime) {
+    for (cells, count) in COUNTED {
+        assert!(rt; has_arcs(&rt, rt.alloc(), cells, *count), "{cells}");
+    }
+}
+
+/// Descriptions, and the cell and the rule that they are refused for.
+const REFUSED: &[(&str, (u32, u32))] = &[
+    (
+        "cell.a={kind=\"gate\",inputs=[\"A\"],outputs=[\"Y\"],positive=\"A\"}",
+        (1, 9),
+    ),
+    (
+        "cell.a={kind=\"gate\",inputs=[\"A\"],outputs=[\"Y\"],negative=[1]}",
+        (1, 9),
+    ),
+    (
+        "cell.a={kind=\"gate\",inputs=[\"A\"],outputs=[\"Y\"],positive=[\"B\"]}",
+        (1, 9),
+    ),
+    (
+        "cell.a={kind=\"gate\",inputs=[\"A\"],outputs=[\"Y\"],negative=[\"A Z\"]}",
+        (1, 9),
+    ),
+    (
+        "cell.a={kind=\"gate\",inputs=[\"A\"],outputs=[\"Y\"],negative=[\"A  Y\"]}",
+        (1, 9),
+    ),
+    (
+        "cell.a={kind=\"gate\",inputs=[\"A\"],outputs=[\"Y\"],positive=[\"A\",\"A Y\"]}",
+        (1, 9),
+    ),
+    (
+        "cell.a={kind=\"gate\",inputs=[\"A\"],outputs=[\"Y\"],positive=[\"A\"],negative=[\"A Y\"]}",
+        (1, 9),
+    ),
+    (
+        "cell.a={kind=\"latch\",d=\"D\",g=\"G\",outputs=[\"Q\"],positive=[\"D\"]}",
+        (1, 9),
+    ),
+    (
+        "cell.a={kind=\"flop\",d=\"D\",clock=\"C\",outputs=[\"Q\"],positive=[\"Q\",\"Q\"]}",
+        (1, 9),
+    ),
+    (
+        "cell.a={kind=\"clock\",input=\"I\",output=\"Z\",positive=[]}",
+        (1, 3),
+    ),
+    (
+        "cell.a={kind=\"gate\",inputs=[],outputs=[\"Y\"],positive=[\"Y\"]}\n\
+         cell.b={kind=\"gate\",inputs=[],outputs=[\"Y\"],min=1,max=0}",
+        (2, 7),
+    ),
+];
+
+// Row refused-sense-keys.
+#[test]
+fn refusal_13_by_rule_9_names_its_cell(rt: HostRuntime) {
+    for (cells, wanted) in REFUSED {
+        assert!(rt; is_refused(&rt, rt.alloc(), cells, *wanted), "{cells}");
+    }
 }

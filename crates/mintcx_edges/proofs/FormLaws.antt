@@ -2,15 +2,18 @@
 use Rattle.std.proofs.Common.{◌≡◌, ℕ, ◌<◌, List, [], length, get_or, All, Option, Some, None, IsSome, sym, ap, ◌∙◌, subst, arith}
 use Rattle.std.proofs.lemmas.List.{length-map, get_or-map, ext_get_or}
 use Rattle.mintc_text.specs.declared.refusals.Refusal.{Refusal}
+use Rattle.mintc_text.specs.declared.refusals.Refusal.TheVariants as refusal
 use Rattle.mintc_cells.specs.declared.cell.Cell.{Cell}
 use Rattle.mintc_cells.specs.Entries.{names_of, name_at, cell_at, no_cell, number_of}
-use Rattle.mintc_cells.specs.Laws.{CellsAreDetermined}
+use Rattle.mintc_cells.specs.CellsOf.{IsBadCellBy}
 use Rattle.mintc_flatten_hierarchy.specs.Shape.{CellTable}
 use Rattle.mintc_build.specs.FilesDesign.{CellText, described_by, library_by, IsLibraryRefusal}
 use Rattle.mintcx_clock_cells.specs.Clocks.{Senses, HasClockCells, IsFit, IsUnknown, IsUnusable, IsFirstUnfit, IsUnfit, senses_in, cell_for, clock_at}
 use Rattle.mintcx_clock_cells.specs.declared.unfit.Unfit.TheVariants as unfit
 use Rattle.mintc_build.proofs.SharedFilesLaws.{one_library, no_library, one_library_refusal}
-use Rattle.mintcx_edges.specs.EdgeFiles.{SensedText, description, library_with, cells_with}
+use Rattle.mintcx_sense_keys.specs.SensedCells.{AreSensedCells, IsBadSensedCell}
+use Rattle.mintcx_sense_keys.specs.Laws.{PlainCellsAreDetermined, SensedCellsAreNotRefused, BadSensedCellsAreDetermined, CellsHaveNoKeys, KeylessTextsArePlain}
+use Rattle.mintcx_edges.specs.EdgeFiles.{SensedText, described_without, description, library_with, cells_with}
 use Rattle.mintcx_edges.proofs.PlainLaws.{IsPlain}
 
 -- ---- forms of cells
@@ -19,8 +22,30 @@ use Rattle.mintcx_edges.proofs.PlainLaws.{IsPlain}
 abbrev pub AreSameForms : (List ℕ → CellText) → (List ℕ → SensedText) → Type 0
 AreSameForms by with_senses = (c : List ℕ) (a b : CellTable) → (by c).Describes a → (with_senses c).cells.Describes b → a ≡ b
 
-pub described_same : CellsAreDetermined → AreSameForms described_by description
-described_same law = law
+-- a description without the keys has the cells of the description
+pub without_same : PlainCellsAreDetermined → AreSameForms described_without description
+without_same law c a b h k = law c a b h k.plain
+
+-- so has a description whose cells are read where the keys aren't, since it has none of them
+pub described_same : CellsHaveNoKeys → KeylessTextsArePlain → PlainCellsAreDetermined → AreSameForms described_by description
+described_same none plain law c a b h k = law c a b (plain.sensed c a (none c a h) h).plain k.plain
+
+no_sensed : SensedCellsAreNotRefused → (c : List ℕ) (cells : CellTable) (refused : Refusal) → AreSensedCells c cells → IsBadCellBy (IsBadSensedCell c) refused → ⊥
+no_sensed law c cells (refusal.BadCell n rule) h k = law c cells n rule h k
+no_sensed law c cells _ h k = k
+
+one_sensed_refusal : BadSensedCellsAreDetermined → (c : List ℕ) (refused other : Refusal) → IsBadCellBy (IsBadSensedCell c) refused → IsBadCellBy (IsBadSensedCell c) other → refused ≡ other
+one_sensed_refusal law c (refusal.BadCell n rule) (refusal.BadCell m another) h k =
+    let both = law c n rule m another h k in
+    ap (λ x. refusal.BadCell x rule) both.0 ∙ ap (refusal.BadCell m) both.1
+one_sensed_refusal law c (refusal.BadCell n rule) _ h k = absurd k
+one_sensed_refusal law c _ other h k = absurd h
+
+one_sensed : PlainCellsAreDetermined → (c : List ℕ) (a b : CellTable) → AreSensedCells c a → AreSensedCells c b → a ≡ b
+one_sensed law c a b h k = law c a b h.plain k.plain
+
+pub description_plain : PlainCellsAreDetermined → SensedCellsAreNotRefused → BadSensedCellsAreDetermined → IsPlain description
+description_plain one none bad = record { one_cells = one_sensed one; no_refused = no_sensed none; one_refused = one_sensed_refusal bad }
 
 -- ---- a library with gates
 

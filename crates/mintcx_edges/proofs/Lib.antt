@@ -4,4 +4,3 @@ mod PlainLaws
 mod HaltLaws
 mod KeptLaws
 mod StopLaws
-mod SenseLaws

@@ -1,5 +1,5 @@
 -- The design with edges apart of a netlist, delays, cells with their senses and a clock, or their first refusal.
-use Rattle.std.specs.Prelude.{◌≡◌, ℕ, List, [], Err}
+use Rattle.std.specs.Prelude.{◌≡◌, ℕ, List, Err}
 use Rattle.mintc_text.specs.declared.limits.Most.{Most}
 use Rattle.mintc_text.specs.declared.refusals.Refusal.{Refusal}
 use Rattle.mintc_timing.specs.Design.{Design}
@@ -13,10 +13,13 @@ use Rattle.mintc_clock.specs.declared.clock.Clock.{Clock}
 use Rattle.mintc_clock.specs.ClockOf.{IsClock, IsClockRefusal}
 use Rattle.mintc_flatten_hierarchy.specs.declared.hierarchy.Hierarchy.{Hierarchy}
 use Rattle.mintc_flatten_hierarchy.specs.Shape.{CellTable}
-use Rattle.mintc_build.specs.FilesDesign.{CellText, described_by, IsLibraryRefusal, IsNetlistRefusal, IsHierarchyOf}
+use Rattle.mintc_cells.specs.CellsOf.{IsBadCellBy}
+use Rattle.mintc_build.specs.FilesDesign.{CellText, IsLibraryRefusal, IsNetlistRefusal, IsHierarchyOf}
 use Rattle.mintc_build.specs.FilesDesign.{IsHierarchyRefusal}
 use Rattle.mintc_edges.specs.Numbers.{sense_of}
 use Rattle.mintc_edges.specs.Apart.{IsEdgeDesign, IsEdgeRefusal}
+use Rattle.mintcx_sense_keys.specs.SensedCells.{ArePlainCells, IsBadPlainCell, AreSensedCells, IsBadSensedCell}
+use Rattle.mintcx_sense_keys.specs.SensedCells.{senses_of_text}
 use Rattle.mintcx_clock_cells.specs.Clocks.{HasClockCells, senses_in}
 
 -- What cells and their senses are read from: a text that describes cells, or gives a refusal, and says senses of the
@@ -25,9 +28,16 @@ pub record SensedText : Type 1 where
   pub cells : CellText
   pub senses : CellTable → List (List (List Transitions))
 
--- a description of cells, which says no senses
+-- the cells of a description without the keys of senses
+abbrev pub described_without : List ℕ → CellText
+described_without text = record { Describes = ArePlainCells text; Refuses = IsBadCellBy (IsBadPlainCell text) }
+
+-- a description of cells, and the senses that its keys say
 abbrev pub description : List ℕ → SensedText
-description text = record { cells = described_by text; senses = λ cells. [] }
+description text = record {
+  cells = record { Describes = AreSensedCells text; Refuses = IsBadCellBy (IsBadSensedCell text) };
+  senses = senses_of_text text;
+}
 
 -- the cells of a Liberty library, with gates of these names for the clock
 abbrev pub cells_with : List (List ℕ) → List ℕ → CellText

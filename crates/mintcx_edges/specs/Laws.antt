@@ -10,15 +10,16 @@ use Rattle.mintc_senses_expressions.specs.Transitions.{all_transitions}
 use Rattle.mintc_flatten_hierarchy.specs.Shape.{CellTable}
 use Rattle.mintc_edges.specs.Numbers.{sense_of}
 use Rattle.mintc_build.specs.FilesDesign.{CellText, IsDesignOver}
+use Rattle.mintcx_sense_keys.specs.Laws.{IsKeyless}
 use Rattle.mintcx_edges.specs.declared.halt.Halt.{Halt}
 use Rattle.mintcx_edges.specs.declared.halt.Halt.TheVariants as halt
 use Rattle.mintcx_edges.specs.EdgeFiles.{SensedText, description, library_with, cells_with, IsEdgeDesignOver}
 use Rattle.mintcx_edges.specs.EdgeFiles.{IsEdgeRefusalOver, IsEdgeLibertyDesign}
 use Rattle.mintcx_edges.specs.Halts.{IsEdgeHalt}
 
--- Of cells that are described each edge of an input may make both edges of an output.
+-- Of cells that are described without the keys of senses each edge of an input may make both edges of an output.
 abbrev pub DescribedEdgesMakeBoth : Type 0
-DescribedEdgesMakeBoth = (text : List ℕ) (cells : CellTable) (cell input output : ℕ) →
+DescribedEdgesMakeBoth = (text : List ℕ) (cells : CellTable) (cell input output : ℕ) → IsKeyless text →
     sense_of ((description text).senses cells) cells cell input output ≡ all_transitions
 
 -- Texts whose cells are read in one form have one design with edges apart or one refusal at most, and never both.

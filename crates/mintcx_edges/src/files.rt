@@ -7,8 +7,7 @@ ghost use Rattle.mintcx_edges.specs.EdgeFiles.{IsEdgeFilesDesign, IsEdgeFilesRef
 ghost use Rattle.mintcx_edges.specs.Halts.{IsEdgeHalt};
 
 use crate::halt::Halt;
-use crate::reading::{Read, design_of, no_senses};
-use mintc_cells::read_cells;
+use crate::reading::{Read, design_of};
 use mintc_clock::read_clock;
 use mintc_sdf_edges::read_edge_delays;
 use mintc_senses::read_senses;
@@ -16,12 +15,14 @@ use mintc_text::{Limits, Name, Stop};
 use mintc_timing::{Flat, unrefused_are_within};
 use mintc_verilog::read_netlist;
 use mintcx_clock_cells::clock_cells;
+use mintcx_sense_keys::read_sensed_cells;
 use std::alloc::Global;
 
-/// The design with edges apart of a netlist, delays, cells and a clock. A description of cells says no senses, so each
-/// edge of an input may make both edges of an output. The refusal is the first in the order of a run: Syntax of the
-/// netlist; Syntax, Range or Negative of the delays; BadCell; BadClock; those of the hierarchy; those of the clock's
-/// ports, of what delays speak of, of phases, and of limits, which count each element and each inner bit twice.
+/// The design with edges apart of a netlist, delays, cells and a clock. The senses are those that the keys of the
+/// description say; where they don't name a pin, each edge of it may make both edges of an output. The refusal is the
+/// first in the order of a run: Syntax of the netlist; Syntax, Range or Negative of the delays; BadCell, of which rule
+/// 9 is about the keys; BadClock; those of the hierarchy; those of the clock's ports, of what delays speak of, of
+/// phases, and of limits, which count each element and each inner bit twice.
 pub fn from_edge_files(
     alloc: Global,
     limits: &Limits,
@@ -41,14 +42,13 @@ pub fn from_edge_files(
     unrefused_are_within();
     let netlist = read_netlist(alloc, netlist)?;
     let delays = read_edge_delays(alloc, delays)?;
-    let cells = read_cells(alloc, cells)?;
+    let described = read_sensed_cells(alloc, cells)?;
     let clock = read_clock(alloc, clock)?;
-    let senses = no_senses(alloc)?;
     let read = Read {
         netlist,
         delays,
-        cells,
-        senses,
+        cells: described.cells,
+        senses: described.senses,
         clock,
     };
     design_of(alloc, limits, &read)

@@ -1,5 +1,5 @@
 //! The design of texts that are read.
-ghost use Rattle.std.specs.Prelude.{◌≡◌, [], IfOk, IfErr, MatchResult};
+ghost use Rattle.std.specs.Prelude.{MatchResult};
 ghost use Rattle.mintc_text.specs.Stops.{StopsAt};
 ghost use Rattle.mintc_netlist.specs.Ordinary.{IsOrdinary};
 ghost use Rattle.mintc_annotate.specs.Given.{IsGivenClock};
@@ -12,8 +12,8 @@ use mintc_edges::{Sources, edges};
 use mintc_flatten::flatten;
 use mintc_netlist::Netlist;
 use mintc_sdf_edges::EdgeDelays;
-use mintc_senses::{Senses, read_senses};
-use mintc_text::{Limits, OutOfMemory, Stop};
+use mintc_senses::Senses;
+use mintc_text::{Limits, Stop};
 use mintc_timing::Flat;
 use std::alloc::Global;
 
@@ -25,14 +25,6 @@ pub(crate) struct Read {
     pub(crate) cells: Cells,
     pub(crate) senses: Senses,
     pub(crate) clock: Clock,
-}
-
-/// The senses of no cells: each edge of each pin may make both.
-pub(crate) fn no_senses(alloc: Global) -> Result<Senses, OutOfMemory>
-    ensures { IfOk result (λ senses. senses ≡ []) }
-{
-    let none = Cells::new(alloc, Vec::new(alloc))?;
-    read_senses(alloc, b"", &none)
 }
 
 /// The design of what texts say, or the first refusal of their hierarchy and of what is made of it.

@@ -116,8 +116,10 @@ fn cell_help(rule: u32) -> &'static [u8] {
         5 => b"give each pin its own name",
         6 => b"10 ps is `setup = 10_000`",
         7 => b"make each min at most its max",
-        _ =>
+        8 =>
             b"write `\"high\"` or `\"low\"`, `\"rising\"` or `\"falling\"`, `true` or `false` without quotes",
+        _ =>
+            b"a gate's items are `\"A\"` or `\"A Y\"`, those of a latch or flop its outputs; name each pair once",
     }
 }
 

@@ -23,7 +23,9 @@ fn cell_rule(rule: u32) -> &'static [u8] {
         5 => b": a cell has a pin twice",
         6 => b": a number of a cell is no whole number, or out of its limit",
         7 => b": a max of a cell is below its min",
-        _ => b": `active`, `edge` or `invert` of a cell is none of its values",
+        8 => b": `active`, `edge` or `invert` of a cell is none of its values",
+        _ =>
+            b": `positive` or `negative` of a cell is no list of names, names no pin, or names a pair of pins twice",
     }
 }
 
@@ -64,7 +66,9 @@ fn own_rule(rule: u32) -> &'static [u8] {
         5 => b": a pin comes twice",
         6 => b": a number is no whole number, or out of its limit",
         7 => b": a max is below its min",
-        _ => b": `active`, `edge` or `invert` is none of its values",
+        8 => b": `active`, `edge` or `invert` is none of its values",
+        _ =>
+            b": `positive` or `negative` is no list of names, names no pin, or names a pair of pins twice",
     }
 }
 

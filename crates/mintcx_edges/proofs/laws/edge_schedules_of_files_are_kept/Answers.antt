@@ -1,14 +1,19 @@
 use Rattle.std.proofs.Common.{[]}
 use Rattle.mintc_build.specs.FilesDesign.{described_by, library_by}
-use Rattle.mintcx_edges.specs.EdgeFiles.{description, library_with, cells_with}
-use Rattle.mintcx_edges.proofs.FormLaws.{described_same, library_same, gated_same}
+use Rattle.mintcx_edges.specs.EdgeFiles.{described_without, description, library_with, cells_with}
+use Rattle.mintcx_edges.proofs.FormLaws.{described_same, without_same, library_same, gated_same}
 use Rattle.mintcx_edges.proofs.KeptLaws.{AreTextLaws, schedules_lem}
 use Rattle.mintcx_edges.proofs.laws.edge_schedules_of_files_are_kept.Goals as goal
 
 pub returns-clause-described : goal.returns-clause-described
 returns-clause-described c =
     let law : AreTextLaws = record { one_netlist = c.texts_are_plain.ensures.value; one_clock = c.clocks_are_determined.ensures; merge = c.delays_merge.ensures } in
-    schedules_lem described_by description (described_same c.cells_are_determined.ensures) law c.edge_schedules_are_kept.ensures
+    schedules_lem described_by description (described_same c.cells_have_no_keys.ensures c.keyless_texts_are_plain.ensures c.plain_cells_are_determined.ensures) law c.edge_schedules_are_kept.ensures
+
+pub returns-clause-without : goal.returns-clause-without
+returns-clause-without c =
+    let law : AreTextLaws = record { one_netlist = c.texts_are_plain.ensures.value; one_clock = c.clocks_are_determined.ensures; merge = c.delays_merge.ensures } in
+    schedules_lem described_without description (without_same c.plain_cells_are_determined.ensures) law c.edge_schedules_are_kept.ensures
 
 pub returns-clause-library : goal.returns-clause-library
 returns-clause-library c =

@@ -1,0 +1,7 @@
+use Rattle.std.proofs.Common.{rules}
+use Rattle.mintcx_sense_keys.specs.Plain.{plain_entry}
+use Rattle.mintcx_sense_keys.proofs.PlainLaws.{changed}
+use Rattle.mintcx_sense_keys.proofs.plain.strip_entries.Goals as goal
+
+pub returns : goal.returns
+returns c = changed _ plain_entry _ (λ k v b w f' t. search rules) _ _ c.retain.ensures.filtered

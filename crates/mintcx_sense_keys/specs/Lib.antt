@@ -1,0 +1,5 @@
+-- What contracts of public calls and laws say:
+pub mod Laws
+pub mod Plain
+pub mod Senses
+pub mod SensedCells
