@@ -253,6 +253,15 @@ fn put_missing_help(
     }
 }
 
+/// What helps with a key that the kind of an item doesn't have.
+fn extra_help(key: &[u8]) -> &'static [u8] {
+    if key == b"positive".as_slice() || key == b"negative".as_slice() {
+        b"take the key out; of a gate, latch or flop it is read with `--edges apart`"
+    } else {
+        b"take the key out, or mend its spelling"
+    }
+}
+
 /// Writes what helps with a value that is no whole number.
 fn put_whole_help(out: &mut Lines, key: &[u8]) -> Result<(), OutOfMemory> {
     if key == b"cycles".as_slice() {
@@ -293,7 +302,7 @@ pub(crate) fn put_key_help(
                 wrong: Wrong::Extra,
                 ..
             },
-        ) => out.put(b"take the key out, or mend its spelling"),
+        ) => out.put(extra_help(marked(case))),
         Some(Fault::OpenQuote) => out.put(b"close the quote"),
         _ => Ok(()),
     }
