@@ -9,6 +9,8 @@ mod folder;
 #[cfg(test)]
 mod forms;
 #[cfg(test)]
+mod rings;
+#[cfg(test)]
 mod rows;
 #[cfg(test)]
 mod runs;
