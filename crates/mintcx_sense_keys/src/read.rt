@@ -1,5 +1,5 @@
 //! Reading a cell description with its senses.
-ghost use Rattle.std.specs.Prelude.{◌≡◌, ◌≤◌, ◌<◌, ◌^◌, ◌++◌, ◌∷◌, [], None, Some, length, map, IfOk, IfErr, OnOk};
+ghost use Rattle.std.specs.Prelude.{◌≡◌, ◌<◌, ◌^◌, ◌++◌, ◌∷◌, [], None, Some, length, map, IfOk, IfErr, OnOk};
 ghost use Rattle.std.specs.Prelude.{MatchResult};
 ghost use Rattle.mintc_text.specs.Stops.{StopsAt};
 ghost use Rattle.toml.specs.View.{view, table_view};
