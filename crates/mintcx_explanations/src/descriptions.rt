@@ -22,6 +22,8 @@ of their names; N is 0 where no single cell is meant. The rules are:
     7  no max is below its min, once what isn't said is filled in
     8  `active` is \"high\" or \"low\", `edge` is \"rising\" or \"falling\", and
        `invert` is true or false, without quotes
+    9  `positive` and `negative`, which `mintcx` reads with edges apart, name
+       pins or pairs of pins that are there, none of them twice
 
 So a description of one cell,
 

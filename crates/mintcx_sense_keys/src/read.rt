@@ -1,7 +1,6 @@
 //! Reading a cell description with its senses.
-ghost use Rattle.std.specs.Prelude.{◌≡◌, ◌≤◌, ◌<◌, ◌^◌, ◌++◌, ◌∷◌, [], None, Some, length, map, IfOk, IfErr, OnOk};
+ghost use Rattle.std.specs.Prelude.{◌≡◌, ◌<◌, ◌^◌, ◌++◌, ◌∷◌, [], None, Some, length, map, IfOk, IfErr, OnOk};
 ghost use Rattle.std.specs.Prelude.{MatchResult};
-ghost use Rattle.mintc_text.specs.declared.limits.TheConstants.{MOST_BYTES};
 ghost use Rattle.mintc_text.specs.Stops.{StopsAt};
 ghost use Rattle.toml.specs.View.{view, table_view};
 ghost use Rattle.mintc_toml.specs.Documents.{IsDocument};
@@ -120,11 +119,10 @@ fn senses_in(alloc: Global, document: &Table, cells: &Cells) -> Result<Senses, S
     senses_of(alloc, pairs.as_slice())
 }
 
-/// The cells that a text describes without the keys of senses, and the senses that these keys say of them. Refused by
-/// the first cell that fails a rule of 1 to 8, and its least such rule, as the text is without the keys; and where none
-/// does, by the first cell whose keys fail rule 9.
+/// The cells that a text describes without the keys of senses, and the senses that these keys say of them. Refused as
+/// the text is without the keys, by the first cell that fails a rule and its least such rule; and where none does, by
+/// the first cell whose keys fail rule 9.
 pub fn read_sensed_cells(alloc: Global, text: &[u8]) -> Result<SensedCells, Stop>
-    requires { length text.now ≤ MOST_BYTES }
     ensures cells { IfOk result (λ read. AreSensedCells text.now read.cells) }
     ensures senses { IfOk result (λ read. read.senses ≡ senses_of_text text.now read.cells) }
     ensures stop { IfErr result (StopsAt (IsBadCellBy (IsBadSensedCell text.now))) }
