@@ -198,7 +198,7 @@ def wrong_statuses(program, folder, words, bad, refusal, usage):
     *before, _ = words
     with tempfile.NamedTemporaryFile() as large:
         large.truncate(60_000_000)
-        enough_for_words = limited(resource.RLIMIT_AS, 64_000_000)
+        enough_for_words = limited(resource.RLIMIT_AS, 48_000_000)
         for what, ran, status, output in [
             ("a refused file", run(program, [*before, bad], folder), 2, refusal),
             ("no words", run(program, [], folder), 3, usage),
@@ -317,7 +317,7 @@ def wrong_statuses_of_mintcx(folder, words, bad):
     *before, _ = words
     with tempfile.NamedTemporaryFile() as large:
         large.truncate(60_000_000)
-        enough_for_words = limited(resource.RLIMIT_AS, 64_000_000)
+        enough_for_words = limited(resource.RLIMIT_AS, 48_000_000)
         for what, ran, status, front in [
             ("a refused file", run(MINTCX, [*before, bad], folder), 2, b"error[1]: "),
             ("no words", run(MINTCX, [], folder), 3, b""),
